@@ -1,6 +1,6 @@
 -- What the answer to the call about robustness says, that it fits its word, whatever is lent, and where its schedule stands in the output.
 use Prim.Native.Nat.{ℕ, ◌^◌, ◌<◌, ◌≤◌}
-use mathlib.Core.Path.{◌≡◌, refl, ap}
+use mathlib.Core.Path.{◌≡◌, refl}
 use mathlib.Core.List.{List}
 use native.Mathlib.Omega.{arith}
 use lib.ListN.{length}
@@ -11,33 +11,20 @@ use Rattle.spec_tso.proofs.Laws.{tso_laws, at_most_16}
 use Rattle.spec_tso.proofs.Lawful.{at_most_32}
 use Rattle.spec_across.specs.RobustCall.{Answer, robust, relaxed, refusing, Robustness, by_file, by_output, holding, breaking, output_after}
 use Rattle.spec_across.specs.RobustWord.{robust_reply}
-use Rattle.spec_calls.specs.Word as word
 use Rattle.spec_calls.specs.Word.{answered, word_of, kind_in, rest_in, Fits}
 use Rattle.spec_calls.proofs.Words.{kind_one}
 use Rattle.listing.specs.Demand3.{InFront}
 use Rattle.listing_model.specs.declared.memory.Model.TheVariants.{TotalStoreOrder}
 use Rattle.listing_model.proofs.SmallRefusals.{refused_small}
-use Rattle.robust.specs.declared.robust_call.RobustAnswer.TheVariants.{Robust, Relaxed, Refused}
 use Rattle.robust.specs.AnswerOf.{robust_answer_of}
+use Rattle.c_word.specs.Found.{reply_of}
 
 -- by the answer as the code gives it
-pub says_robust : (a : Answer) → robust_answer_of a ≡ Robust → robust_reply a ≡ word.nothing
-unfolding robust_answer_of robust_reply
-says_robust robust e = refl
-says_robust (relaxed s) e = absurd (let z : ◌≡◌ {A = ℕ} 0 1 = cc in omega arith)
-says_robust (refusing n k) e = absurd (let z : ◌≡◌ {A = ℕ} 0 1 = cc in omega arith)
-
-pub says_relaxed : (a : Answer) (n : ℕ) → robust_answer_of a ≡ Relaxed n → robust_reply a ≡ word.answered n
-unfolding robust_answer_of robust_reply
-says_relaxed robust n e = absurd (let z : ◌≡◌ {A = ℕ} 0 1 = cc in omega arith)
-says_relaxed (relaxed s) n e = let q : length s ≡ n = cc in ap word.answered q
-says_relaxed (refusing m k) n e = absurd (let z : ◌≡◌ {A = ℕ} 0 1 = cc in omega arith)
-
-pub says_refused : (a : Answer) (n k : ℕ) → robust_answer_of a ≡ Refused n k → robust_reply a ≡ word.refused n k
-unfolding robust_answer_of robust_reply
-says_refused robust n k e = absurd (let z : ◌≡◌ {A = ℕ} 0 1 = cc in omega arith)
-says_refused (relaxed s) n k e = absurd (let z : ◌≡◌ {A = ℕ} 0 1 = cc in omega arith)
-says_refused (refusing i j) n k e = cc
+pub word_robust : (a : Answer) → reply_of (robust_answer_of a) ≡ robust_reply a
+unfolding reply_of robust_answer_of robust_reply
+word_robust robust = refl
+word_robust (relaxed s) = refl
+word_robust (refusing n k) = refl
 
 -- a schedule has at most 32 steps, and is answered only where there is room for it
 abbrev RobustWithin : ℕ → Answer → Type 0

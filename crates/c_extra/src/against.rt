@@ -7,18 +7,19 @@ ghost use Rattle.spec_outcomes.specs.Scratch.{covers_scratch};
 ghost use Rattle.c_extra.specs.Against.{against_reply};
 
 use c_word::{answered, nothing, refused, second_refused};
-use covers::CoversAnswer;
+use covers::CoversRefusal;
 
 // The word of an answer.
-pub fn against_word(a: CoversAnswer) -> u64
-    ensures { result ≡ word_of (against_reply a) }
+#[tactic(auto, unfolding(crate::specs::Against::against_reply))]
+pub fn against_word(answer: Result<Option<usize>, CoversRefusal>) -> u64
+    ensures { result ≡ word_of (against_reply answer) }
 {
-    match a {
-        CoversAnswer::Covered => nothing(),
-        CoversAnswer::Lacking(n) => answered(n),
-        CoversAnswer::RefusedFirst(number, place) => refused(number, place),
-        CoversAnswer::RefusedSecond(number, place) => second_refused(number, place),
-        CoversAnswer::RefusedOutput(number, place) => refused(number, place),
+    match answer {
+        Ok(Some(n)) => answered(n),
+        Ok(None) => nothing(),
+        Err(CoversRefusal::First(r)) => refused(r.number, r.place),
+        Err(CoversRefusal::Second(r)) => second_refused(r.number, r.place),
+        Err(CoversRefusal::Output(r)) => refused(r.number, r.place),
     }
 }
 

@@ -8,16 +8,18 @@ ghost use Rattle.c_extra.specs.Forcing.{forcing_reply};
 
 use c_word::{answered, nothing, refused};
 use file_lines::wide;
-use force::ForceAnswer;
+use force::Winner;
+use spec_file::Refusal;
 
 // The word of an answer.
-fn force_word(a: ForceAnswer) -> u64
-    ensures { result ≡ word_of (forcing_reply a) }
+#[tactic(auto, unfolding(crate::specs::Forcing::forcing_reply))]
+fn force_word(answer: Result<Winner, Refusal>) -> u64
+    ensures { result ≡ word_of (forcing_reply answer) }
 {
-    match a {
-        ForceAnswer::Hostile(n) => answered(wide(n)),
-        ForceAnswer::Friendly => nothing(),
-        ForceAnswer::Refused(number, place) => refused(number, place),
+    match answer {
+        Ok(Winner::Hostile(n)) => answered(wide(n)),
+        Ok(Winner::Friendly) => nothing(),
+        Err(r) => refused(r.number, r.place),
     }
 }
 

@@ -1,13 +1,10 @@
 -- What each call of the list says fits its word, whatever it is lent, in both memory models.
-use Prim.Native.Nat.{ℕ, ◌*◌, ◌/◌, ◌^◌, ◌<◌, ◌≤◌}
-use mathlib.Core.Path.{◌≡◌, refl, sym, ap, ◌∙◌}
-use mathlib.Core.Bool.{Bool, true, false}
+use Prim.Native.Nat.{ℕ, ◌*◌, ◌/◌, ◌^◌, ◌<◌}
+use mathlib.Core.Path.{◌≡◌, refl}
 use mathlib.Core.Option.{Option}
 use mathlib.Core.List.{List}
 use native.Mathlib.Omega.{arith}
-use lib.Dec.{ltb}
 use lib.ListN.{length, length-take}
-use borrow.Author.Tests.{ltb-true, ltb-false}
 use Rattle.spec_file.specs.Program.{Program}
 use Rattle.spec_file.specs.Decode.{Decoded, accepted, refused, decode}
 use Rattle.spec_schedules.specs.Order.{Schedule}
@@ -18,7 +15,7 @@ use Rattle.spec_model.specs.Model as Memory
 use Rattle.spec_model.specs.Laws.{Laws, Admitted}
 use Rattle.spec_model.specs.Alike.{list_of}
 use Rattle.spec_model.specs.Answers.{start_of, continue_of, Violation, fails_first, none_fails, refused_by, violation_of}
-use Rattle.spec_model.specs.OnFile.{unless, admit, start_on, continue_on, violation_on, count_on, start_file, continue_file, violation_file, count_file}
+use Rattle.spec_model.specs.OnFile.{admit, start_on, continue_on, violation_on, count_on, start_file, continue_file, violation_file, count_file}
 use Rattle.spec_model.proofs.TheList.{list_room}
 use Rattle.spec_model.proofs.Admitted.{listed_program}
 use Rattle.spec_model.proofs.Answered.{Within, ViolationWithin, start_within, continue_within, violation_within}

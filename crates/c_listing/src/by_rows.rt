@@ -6,18 +6,15 @@ ghost use Rattle.spec_calls.specs.RowsCall.{rows_file, rows_output};
 ghost use Rattle.spec_calls.specs.Word.{word_of};
 ghost use Rattle.spec_calls.specs.ByRows.{rows_reply};
 
-use c_word::{answered, refused};
+use c_word::number_word;
 use listing_model::Model;
-use spec_calls::RowsAnswer;
+use spec_file::Refusal;
 
-// The word of an answer.
-pub fn rows_word(a: RowsAnswer) -> u64
-    ensures { result ≡ word_of (rows_reply a) }
+// The word of a number of rows, or of a refusal.
+fn rows_word(answer: Result<usize, Refusal>) -> u64
+    ensures { result ≡ word_of (rows_reply answer) }
 {
-    match a {
-        RowsAnswer::Written(n) => answered(n),
-        RowsAnswer::Refused(number, place) => refused(number, place),
-    }
+    number_word(answer)
 }
 
 // Kind 1 with the number of rows, which stand in front of `out`: the first listed schedules, as many as have room; kind 3 with number and

@@ -8,6 +8,6 @@ mod tally;
 // Many listed schedules at a time: tarczolin_rows, tarczolin_rows_after.
 mod by_rows;
 
-pub use by_rows::{rows_word, tarczolin_rows, tarczolin_rows_after};
-pub use listed::{tarczolin_continue, tarczolin_start, tarczolin_violation, word_of};
+pub use by_rows::{tarczolin_rows, tarczolin_rows_after};
+pub use listed::{tarczolin_continue, tarczolin_start, tarczolin_violation};
 pub use tally::tarczolin_count;

@@ -6,7 +6,7 @@ ghost use Rattle.spec_calls.specs.Word.{word_of};
 ghost use Rattle.spec_calls.specs.ByRows.{rows_reply};
 ghost use Rattle.spec_outcomes.specs.OutcomesCall.{outcomes_file, outcomes_output, outcomes_scratch};
 
-use c_listing::rows_word;
+use c_word::number_word;
 use listing_model::Model;
 use outcomes_call::outcomes;
 
@@ -24,7 +24,7 @@ pub extern "C" fn tarczolin_outcomes(
     ensures later { scratch.new
         ≡ outcomes_scratch (outcomes_file sc file.now from out.old) scratch.old }
 {
-    rows_word(outcomes(Model::Sequential, file, from as usize, out, scratch))
+    number_word(outcomes(Model::Sequential, file, from as usize, out, scratch))
 }
 
 // The same under total store order, by rows of 82 bytes.
@@ -40,5 +40,5 @@ pub extern "C" fn tarczolin_tso_outcomes(
     ensures later { scratch.new
         ≡ outcomes_scratch (outcomes_file tso file.now from out.old) scratch.old }
 {
-    rows_word(outcomes(Model::TotalStoreOrder, file, from as usize, out, scratch))
+    number_word(outcomes(Model::TotalStoreOrder, file, from as usize, out, scratch))
 }

@@ -1,12 +1,11 @@
 -- WHAT A WORD OF FOUR CALLERS TELLS, whatever the call is lent: kind, caller, length, number and place are read back from it. A serve's word of kind
 -- 1 is a schedule, that of any other call is done.
 use Prim.Native.Nat.{ℕ, ◌^◌, ◌<◌, ◌≤◌}
-use mathlib.Core.Path.{◌≡◌, refl, sym, ap, ap₂, subst, ◌∙◌}
+use mathlib.Core.Path.{◌≡◌, refl, sym, ap, ap₂, ◌∙◌}
 use mathlib.Core.Logic.{◌⊎◌, inl, inr}
 use mathlib.Core.List.{List}
 use native.Mathlib.Omega.{arith}
 use lib.ListN.{length, take, drop}
-use Rattle.spec_file.specs.Over.{over}
 use Rattle.spec_file.proofs.Over.{take_over, drop_over, length_over}
 use Rattle.spec_schedules.specs.Order.{Schedule}
 use Rattle.spec_service.specs.Call.{Call, serve, Answer, done, given, ended, idle, refused, Shared, answer_to, output_after}

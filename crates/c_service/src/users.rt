@@ -5,6 +5,7 @@ ghost use Rattle.spec_service.specs.Reply.{shared};
 ghost use Rattle.spec_calls.specs.Users.{user_word, Says, ServeSays};
 
 use c_word::{answered, refused};
+use spec_file::Refusal;
 use spec_service::{Caller, Reply};
 
 const KIND: u64 = 0x100_0000_0000_0000;
@@ -13,21 +14,21 @@ const CALLER: usize = 0x100_0000_0000;
 
 // No more for this caller.
 fn ended(k: usize) -> u64
-    ensures { result ≡ user_word (Reply.Ended k) }
+    ensures { result ≡ user_word (Ok (Reply.Ended k)) }
 {
     2 * KIND + ((k % 256) * CALLER) as u64
 }
 
 // The word of an answer.
-pub(crate) fn user_word(r: Reply) -> u64
+pub(crate) fn user_word(r: Result<Reply, Refusal>) -> u64
     ensures { result ≡ user_word r }
 {
     match r {
-        Reply::Done => answered(0),
-        Reply::Given(k, n) => answered((k % 256) * CALLER + n % CALLER),
-        Reply::Ended(k) => ended(k),
-        Reply::Idle => 5 * KIND,
-        Reply::Refused(number, place) => refused(number, place),
+        Ok(Reply::Done) => answered(0),
+        Ok(Reply::Given(k, n)) => answered((k % 256) * CALLER + n % CALLER),
+        Ok(Reply::Ended(k)) => ended(k),
+        Ok(Reply::Idle) => 5 * KIND,
+        Err(refusal) => refused(refusal.number, refusal.place),
     }
 }
 
@@ -44,8 +45,7 @@ pub extern "C" fn tarczolin_open(
         (shared callers.old last.old) result
         (shared callers.new last.new) }
 {
-    let r = service::open(callers, last, caller, file);
-    user_word(r)
+    user_word(service::open(callers, last, caller, file))
 }
 
 // A caller asks for one schedule. Kind 1: done. Kind 3 with number and place.
@@ -55,8 +55,7 @@ pub extern "C" fn tarczolin_ask(callers: &mut [Caller], last: &mut u64, caller: 
         (shared callers.old last.old) result
         (shared callers.new last.new) }
 {
-    let r = service::ask(callers, last, caller);
-    user_word(r)
+    user_word(service::ask(callers, last, caller))
 }
 
 // Serves the next asking caller after the last one served. Kind 1: a schedule, which stands in front of `out`; bits 0 to 39 its length,
@@ -67,8 +66,7 @@ pub extern "C" fn tarczolin_serve(callers: &mut [Caller], last: &mut u64, out: &
         (shared callers.old last.old) result
         (shared callers.new last.new) out.new }
 {
-    let r = service::serve(callers, last, out);
-    user_word(r)
+    user_word(service::serve(callers, last, out))
 }
 
 // A caller leaves, and its record is emptied. Kind 1: done. Kind 3 with number and place.
@@ -78,8 +76,7 @@ pub extern "C" fn tarczolin_close(callers: &mut [Caller], last: &mut u64, caller
         (shared callers.old last.old) result
         (shared callers.new last.new) }
 {
-    let r = service::close(callers, last, caller);
-    user_word(r)
+    user_word(service::close(callers, last, caller))
 }
 
 // Stores a caller's last schedule handed since it opened, or the beginning if there is none, under this name. Kind 1: done. Kind 3 with
@@ -95,8 +92,7 @@ pub extern "C" fn tarczolin_set(
         (shared callers.old last.old) result
         (shared callers.new last.new) }
 {
-    let r = service::set(callers, last, caller, name);
-    user_word(r)
+    user_word(service::set(callers, last, caller, name))
 }
 
 // A caller stands where the mark of this name does, and its serves go on behind it. Kind 1: done. Kind 3 with number and place.
@@ -111,8 +107,7 @@ pub extern "C" fn tarczolin_return(
         (shared callers.old last.old) result
         (shared callers.new last.new) }
 {
-    let r = service::return_to(callers, last, caller, name);
-    user_word(r)
+    user_word(service::return_to(callers, last, caller, name))
 }
 
 // A caller's mark of this name is freed. Kind 1: done. Kind 3 with number and place.
@@ -127,6 +122,5 @@ pub extern "C" fn tarczolin_forget(
         (shared callers.old last.old) result
         (shared callers.new last.new) }
 {
-    let r = service::forget(callers, last, caller, name);
-    user_word(r)
+    user_word(service::forget(callers, last, caller, name))
 }

@@ -31,7 +31,7 @@ use Rattle.spec_calls.specs.Word.{Fits, word_of}
 use Rattle.spec_calls.specs.Listed.{listed}
 use Rattle.spec_calls.proofs.Words.{kind_one}
 use Rattle.spec_members.specs.Kth.{kth_of, kth_on, kth_file}
-use Rattle.spec_members.specs.Rank.{Ranked, rank_by, rank_of, rank_on, rank_file}
+use Rattle.spec_members.specs.Rank.{rank_by, rank_of, rank_on, rank_file}
 use Rattle.spec_members.specs.Said.{rank_reply}
 use Rattle.spec_members.proofs.Numbered.{member_in}
 use Rattle.c_listing.proofs.Fitting.{answer_fits}

@@ -8,9 +8,7 @@ ghost use Rattle.spec_members.specs.Kth.{kth_file};
 ghost use Rattle.spec_members.specs.Rank.{rank_file};
 ghost use Rattle.spec_members.specs.Said.{kth_scratch, rank_reply, rank_later, rank_scratch};
 
-use c_listing::word_of;
-use c_word::{answered, refused};
-use member_call::RankAnswer;
+use c_word::{answered, found_word, refused};
 
 // Kind 1 with the listed schedule number k, from 0, in front of `out` and its length, kind 2 where the list has not so many, and zeros in the
 // scratch; kind 3 with number and place, and neither `out` nor the scratch changed.
@@ -20,7 +18,7 @@ pub extern "C" fn tarczolin_kth(file: &[u8], k: u64, out: &mut [u8], scratch: &m
     ensures output { out.new ≡ (kth_file sc file.now k out.old).1 }
     ensures scratch { scratch.new ≡ kth_scratch (kth_file sc file.now k out.old).0 scratch.old }
 {
-    word_of(member_call::kth(file, k, out, scratch))
+    found_word(member_call::kth(file, k, out, scratch))
 }
 
 // Kind 1, with how many listed schedules are smaller than the full one given in the word and zeros in the scratch; kind 3 with number and
@@ -36,12 +34,11 @@ pub extern "C" fn tarczolin_rank(
     ensures rank { rank.new ≡ rank_later (rank_file sc file.now schedule.now) rank.old }
     ensures scratch { scratch.new ≡ rank_scratch (rank_file sc file.now schedule.now) scratch.old }
 {
-    let a = member_call::rank(file, schedule, scratch);
-    match a {
-        RankAnswer::Ranked(n) => {
+    match member_call::rank(file, schedule, scratch) {
+        Ok(n) => {
             *rank = n;
             answered(0)
         }
-        RankAnswer::Refused(number, place) => refused(number, place),
+        Err(r) => refused(r.number, r.place),
     }
 }

@@ -7,9 +7,7 @@ ghost use Rattle.spec_calls.specs.Listed.{violation_reply};
 ghost use Rattle.spec_calls.specs.Tallied.{count_reply, listed_later, failing_later};
 ghost use Rattle.spec_calls.specs.Scratch.{count_scratch, violation_scratch};
 
-use c_listing::word_of;
-use c_word::{answered, refused};
-use listing::CountAnswer;
+use c_word::{answered, found_word, refused};
 use listing_model::Model;
 
 // Kind 1, with the two numbers in the words and zeros in the scratch; kind 3 with number and place, and both words and the scratch
@@ -26,14 +24,13 @@ pub extern "C" fn tarczolin_tso_count_with(
     ensures failing { failing.new ≡ failing_later (count_file tso file.now) failing.old }
     ensures scratch { scratch.new ≡ count_scratch (count_file tso file.now) scratch.old }
 {
-    let a = states_call::count_with(Model::TotalStoreOrder, file, scratch);
-    match a {
-        CountAnswer::Counted(n, f) => {
-            *listed = n as u64;
-            *failing = f as u64;
+    match states_call::count_with(Model::TotalStoreOrder, file, scratch) {
+        Ok(tally) => {
+            *listed = tally.listed;
+            *failing = tally.failing;
             answered(0)
         }
-        CountAnswer::Refused(number, place) => refused(number, place),
+        Err(r) => refused(r.number, r.place),
     }
 }
 
@@ -50,5 +47,5 @@ pub extern "C" fn tarczolin_tso_violation_with(
     ensures scratch { scratch.new
         ≡ violation_scratch (violation_file tso file.now out.old).0 scratch.old }
 {
-    word_of(states_call::violation_with(Model::TotalStoreOrder, file, out, scratch))
+    found_word(states_call::violation_with(Model::TotalStoreOrder, file, out, scratch))
 }

@@ -6,7 +6,6 @@ ghost use Rattle.spec_calls.specs.Word.{word_of};
 ghost use Rattle.spec_calls.specs.Tallied.{count_reply, listed_later, failing_later};
 
 use c_word::{answered, refused};
-use listing::CountAnswer;
 use listing_model::Model;
 
 // Kind 1, with the two numbers in the words; kind 3 with number and place, and both words unchanged.
@@ -16,13 +15,12 @@ pub extern "C" fn tarczolin_tso_count(file: &[u8], listed: &mut u64, failing: &m
     ensures listed { listed.new ≡ listed_later (count_file tso file.now) listed.old }
     ensures failing { failing.new ≡ failing_later (count_file tso file.now) failing.old }
 {
-    let a = listing::count(Model::TotalStoreOrder, file);
-    match a {
-        CountAnswer::Counted(n, f) => {
-            *listed = n as u64;
-            *failing = f as u64;
+    match listing::count(Model::TotalStoreOrder, file) {
+        Ok(tally) => {
+            *listed = tally.listed;
+            *failing = tally.failing;
             answered(0)
         }
-        CountAnswer::Refused(number, place) => refused(number, place),
+        Err(r) => refused(r.number, r.place),
     }
 }

@@ -3,5 +3,8 @@
 
 // The word of an answer.
 mod word;
+// The words of what most calls answer.
+mod answers;
 
+pub use answers::{found_word, number_word};
 pub use word::{answered, nothing, refused, second_refused};

@@ -7,6 +7,7 @@ const KIND: u64 = 0x100_0000_0000_0000;
 const NUMBER: u64 = 0x1_0000_0000_0000;
 
 // Answered, with the length of what was written.
+#[tactic(auto, unfolding(spec_calls::specs::Word::word_of))]
 pub fn answered(length: usize) -> u64
     ensures { result ≡ word_of (Reply.answered length) }
 {
@@ -14,6 +15,7 @@ pub fn answered(length: usize) -> u64
 }
 
 // No more, none, no, or covered.
+#[tactic(auto, unfolding(spec_calls::specs::Word::word_of))]
 pub fn nothing() -> u64
     ensures { result ≡ word_of Reply.nothing }
 {
@@ -21,6 +23,7 @@ pub fn nothing() -> u64
 }
 
 // Refused by a number, at a place.
+#[tactic(auto, unfolding(spec_calls::specs::Word::word_of))]
 pub fn refused(number: u8, place: usize) -> u64
     ensures { result ≡ word_of (Reply.refused number place) }
 {
@@ -28,6 +31,7 @@ pub fn refused(number: u8, place: usize) -> u64
 }
 
 // The second of two files refused by a number, at a place.
+#[tactic(auto, unfolding(spec_calls::specs::Word::word_of))]
 pub fn second_refused(number: u8, place: usize) -> u64
     ensures { result ≡ word_of (Reply.second_refused number place) }
 {

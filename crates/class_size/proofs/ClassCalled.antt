@@ -4,6 +4,8 @@ use mathlib.Core.Path.{◌≡◌, sym, ap, ◌∙◌}
 use mathlib.Core.Bool.{Bool, false, ◌&&◌}
 use mathlib.Core.List.{List}
 use lib.ListN.{length, get_or}
+use Rattle.std.specs.Prelude.{Result, Ok, Err, ⊤}
+use Rattle.spec_file.specs.declared.refusal.Refusal.{Refusal}
 use Rattle.spec_file.specs.Program.{Program}
 use Rattle.spec_file.specs.Decode.{Decoded, accepted, refused, decode}
 use Rattle.spec_schedules.specs.Lists.{filter}
@@ -12,17 +14,16 @@ use Rattle.spec_schedules.specs.Permutations.{permutations}
 use Rattle.spec_model.specs.Model as Memory
 use Rattle.spec_model.specs.Laws.{Admitted}
 use Rattle.spec_model.specs.OnFile.{admit}
-use Rattle.spec_model.specs.ClassSize.{sized, refused_class, class_by, class_of, class_on, class_file}
+use Rattle.spec_model.specs.ClassSize.{sized, class_by, class_of, class_on, class_file}
 use Rattle.spec_model.proofs.Refusing.{goes_full}
 use Rattle.graph_writer.specs.Notes.{Note}
 use Rattle.graph_writer.specs.NoteText.{notes_at}
-use Rattle.machine_replay.specs.declared.replaying.Verdict.{Verdict}
-use Rattle.machine_replay.specs.declared.replaying.Verdict.TheVariants.{Whole, Refused}
 use Rattle.machine_replay.specs.Carried.{refusal_of}
 use Rattle.listing_model.specs.declared.memory.Model.{Model}
 use Rattle.listing_model.specs.ModelOf.{model_of}
 use Rattle.listing_replay.specs.declared.replaying.Replay.{Replay}
 use Rattle.listing_replay.specs.Replays.{Replays}
+use Rattle.class_size.specs.ClassWord.{class_answer_of}
 use Rattle.class_size.specs.Moves.{unmoved_in, may_go, goes_by, goes_where, quotient}
 use Rattle.class_size.proofs.Goes.{filter_agree, goes_where_lem}
 use Rattle.class_size.proofs.Divided.{divided_size}
@@ -47,27 +48,27 @@ module _ (groups : List (List ℕ)) (ns : List Note) (may left : List Bool) (a :
 
 -- ---- of a listed program
 module _ (m : Model) (p : Program) (s : Schedule) (r : Replay) (held : Replays m p s r) where
-  answered : class_of (model_of m) p s ≡ class_by (model_of m) p s (refusal_of r.verdict)
+  answered : class_of (model_of m) p s ≡ class_by (model_of m) p s (refusal_of r.end)
   unfolding class_of
   answered = ap (class_by (model_of m) p s) (sym held.answer)
 
-  pub class_refused : (n k : ℕ) → r.verdict ≡ Refused n k → class_of (model_of m) p s ≡ refused_class n k
-  unfolding class_by refusal_of
-  class_refused n k e = answered ∙ ap (λ (v : Verdict). class_by (model_of m) p s (refusal_of v)) e
+  pub class_refused : (q : Refusal) → r.end ≡ Err q → Err q ≡ class_answer_of (class_of (model_of m) p s)
+  unfolding class_by refusal_of class_answer_of
+  class_refused q e = sym (ap class_answer_of (answered ∙ ap (λ (v : Result ⊤ Refusal). class_by (model_of m) p s (refusal_of v)) e))
 
-  pub class_sized : Admitted (model_of m) p → r.verdict ≡ Whole → class_of (model_of m) p s ≡ sized (quotient p.groups (notes_at r.log r.notes))
-  unfolding class_by refusal_of
+  pub class_sized : Admitted (model_of m) p → r.end ≡ Ok tt → Ok (quotient p.groups (notes_at r.log r.notes)) ≡ class_answer_of (class_of (model_of m) p s)
+  unfolding class_by refusal_of class_answer_of
   class_sized a e =
       let full = goes_full (model_of m).system s 0 ((model_of m).start p) (sym held.answer ∙ ap refusal_of e) in
-      answered ∙ ap (λ (v : Verdict). class_by (model_of m) p s (refusal_of v)) e
-      ∙ ap sized (sym (divided_size m p a s full (notes_at r.log r.notes) (held.graph e)))
+      sym (ap class_answer_of (answered ∙ ap (λ (v : Result ⊤ Refusal). class_by (model_of m) p s (refusal_of v)) e)
+      ∙ ap (λ (n : ℕ). class_answer_of (sized n)) (sym (divided_size m p a s full (notes_at r.log r.notes) (held.graph e))))
 
 -- ---- of a program file
 module _ (M : Memory.Model) (file : List ℕ) (s : Schedule) where
-  pub file_refused : (n k : ℕ) → admit M (decode file) ≡ refused n k → class_file M file s ≡ refused_class n k
-  unfolding class_on
-  file_refused n k e = ap (λ (d : Decoded). class_on M d s) e
+  pub file_refused : (r : Refusal) → admit M (decode file) ≡ refused r.number r.place → Err r ≡ class_answer_of (class_file M file s)
+  unfolding class_on class_answer_of
+  file_refused r e = ap (λ (d : Decoded). class_answer_of (class_on M d s)) (sym e)
 
-  pub file_sized : (p : Program) → admit M (decode file) ≡ accepted p → class_file M file s ≡ class_of M p s
+  pub file_sized : (p : Program) → admit M (decode file) ≡ accepted p → class_of M p s ≡ class_file M file s
   unfolding class_on
-  file_sized p e = ap (λ (d : Decoded). class_on M d s) e
+  file_sized p e = ap (λ (d : Decoded). class_on M d s) (sym e)

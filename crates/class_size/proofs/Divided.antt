@@ -16,7 +16,7 @@ use Rattle.spec_file.specs.WellFormed.{WellFormed, Group}
 use Rattle.spec_file.proofs.Everywhere.{everywhere_at}
 use Rattle.spec_file.proofs.DigitValues.{both}
 use Rattle.spec_file.proofs.Tests.{either, equal_tests}
-use Rattle.spec_schedules.specs.Lists.{range, any, filter}
+use Rattle.spec_schedules.specs.Lists.{range, filter}
 use Rattle.spec_schedules.specs.Order.{Schedule}
 use Rattle.spec_schedules.specs.System.{Allowed}
 use Rattle.spec_schedules.specs.Permutations.{permutations, moved}

@@ -1,18 +1,17 @@
 -- Permutations by where each number may go: a table of six times six, one row after the other; and the permutations of a table counted.
-use Prim.Native.Nat.{ℕ, suc, ◌+◌, ◌*◌, ◌/◌, ◌%◌, ◌<◌, ◌≤◌}
+use Prim.Native.Nat.{ℕ, suc, ◌+◌, ◌*◌, ◌/◌, ◌%◌, ◌<◌}
 use native.Mathlib.Omega.{arith}
 use mathlib.Core.Path.{◌≡◌, refl, sym, ap, subst, ◌∙◌}
-use mathlib.Core.Bool.{Bool, true, false, ◌&&◌, true≢false}
+use mathlib.Core.Bool.{Bool, true, false, true≢false}
 use mathlib.Core.List.{List, [], ◌∷◌, map, Memᴰ}
-use lib.ListN.{length, get_or, set, drop, length-map, get_or-map, drop_of_length-le}
-use lib.Seq.{drop-cons, get_or-set_same, get_or-set_other}
+use lib.ListN.{length, get_or, drop, length-map, get_or-map, drop_of_length-le}
+use lib.Seq.{drop-cons}
 use Rattle.spec_file.proofs.Tests.{equal_tests}
 use Rattle.spec_schedules.specs.Lists.{range, all, filter}
 use Rattle.spec_schedules.specs.Permutations.{permutations, permutation_of, moved, unpacked}
 use Rattle.spec_schedules.proofs.Lists.{in_range_lem, of_range, all_at, all_of, filter_yes, filter_no}
 use Rattle.spec_schedules.proofs.Numbered.{permutations_length}
 use Rattle.spec_schedules.proofs.Group.{get_d_any, member_permutation, moved_below, numbered_member}
-use Rattle.machine.proofs.HeldAsking.{one_more}
 use Rattle.class_size.specs.Moves.{goes_by, goes_where}
 
 -- tests that agree on the members of a list
@@ -49,12 +48,6 @@ module _ (may : List Bool) (π : List ℕ) (six : length π ≡ 6) where
   pub goes_all : ((t : ℕ) → t < 6 → place may π t ≡ true) → true ≡ goes_by may π
   unfolding goes_by
   goes_all h = sym (all_of (λ u. get_or may (u * 6 + moved π u) false) (range 0 6) (λ t m. let b = (of_range 0 6 t m).1 in sym (place_is t b) ∙ h t b))
-
--- ---- a table filled place by place
-pub filled_next : (P : ℕ → Bool) (l : List Bool) (k : ℕ) (b : Bool) → k < length l → ((j : ℕ) → j < k → get_or l j false ≡ P j) → b ≡ P k → (j : ℕ) → j < k + 1 → get_or (set l k b) j false ≡ P j
-filled_next P l k b h before e = one_more (λ j. get_or (set l k b) j false ≡ P j) k
-    (λ j i. get_or-set_other l k j b false (λ q. omega (arith, i, q)) ∙ before j i)
-    (get_or-set_same l k b false h ∙ e)
 
 -- ---- the table of permutations
 module _ (table : List ℕ) (tabled : map unpacked table ≡ permutations) where

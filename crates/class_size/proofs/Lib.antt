@@ -5,6 +5,8 @@ pub mod NotesFrom
 pub mod Goes
 -- where a thread may go
 pub mod MayGo
+-- an array made by calls
+pub mod FromFn
 -- two lists of reads compared
 pub mod SameReads
 -- the quotient that is computed is the size of the class

@@ -1,4 +1,4 @@
--- The notes from a place on, note by note: what they state of reads and writes.
+-- The notes from a place on, note by note: what they state of reads.
 use Prim.Native.Nat.{ℕ, suc, ◌+◌, ◌*◌, ◌-◌, ◌<◌, ◌≤◌}
 use native.Mathlib.Omega.{arith}
 use mathlib.Core.Path.{◌≡◌, refl, sym, ap, ◌∙◌}
@@ -8,14 +8,13 @@ use lib.Dec.{eqb}
 use lib.ListN.{get_or}
 use borrow.Author.Tests.{eqb-true}
 use Rattle.spec_file.proofs.DigitValues.{both}
-use Rattle.spec_schedules.specs.Lists.{range, any}
+use Rattle.spec_schedules.specs.Lists.{range}
 use Rattle.spec_schedules.proofs.Lists.{range_suc}
 use Rattle.spec_sc.specs.State.{Event}
-use Rattle.graph_writer.specs.Notes.{Note}
 use Rattle.graph_writer.specs.NoteText.{read_in, reads_in, note_at, notes_at}
 use Rattle.graph_writer.proofs.NoteGraph.{read_own, reads_nil, reads_cons}
-use Rattle.graph_writer.proofs.NotesHeld.{note_thread, note_reads, note_wrote, notes_each}
-use Rattle.class_size.specs.Moves.{read_at, notes_from, write_by, wrote_in}
+use Rattle.graph_writer.proofs.NotesHeld.{note_thread, note_reads, notes_each}
+use Rattle.class_size.specs.Moves.{read_at, notes_from}
 
 module _ (log : List ℕ) (steps : ℕ) where
   -- from the first on all, from behind the last none
@@ -64,19 +63,3 @@ module _ (log : List ℕ) (steps : ℕ) where
 
     pub reads_last : steps ≤ k → reads_in t (notes_from log k steps) ≡ []
     reads_last h = ap (reads_in t) (from_last k h) ∙ reads_nil t
-
-    -- whether note k states a write of thread t
-    abbrev pub writes_at : Bool
-    writes_at = eqb (get_or log (k * 8) 0) t && eqb (get_or log (k * 8 + 6) 0) 1
-
-    pub write_here : k < steps → writes_at ≡ true → wrote_in (notes_from log k steps) t ≡ true
-    unfolding wrote_in any note_at
-    write_here h e = ap (λ (ns : List Note). any (write_by t) ns) (from_next k h) ∙ rw (e, any)
-
-    pub write_elsewhere : k < steps → writes_at ≡ false → wrote_in (notes_from log k steps) t ≡ wrote_in (notes_from log (k + 1) steps) t
-    unfolding wrote_in any note_at
-    write_elsewhere h e = ap (λ (ns : List Note). any (write_by t) ns) (from_next k h) ∙ rw (e, any)
-
-    pub writes_last : steps ≤ k → wrote_in (notes_from log k steps) t ≡ false
-    unfolding wrote_in any
-    writes_last h = ap (any (write_by t)) (from_last k h)

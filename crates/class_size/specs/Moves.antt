@@ -1,6 +1,6 @@
 -- Where each thread may go, read off the `02` lines and the notes of a run. For this crate's own functions: nothing here is needed to read
 -- `class_size_lem`.
-use Rattle.std.specs.Prelude.{ℕ, ◌+◌, ◌*◌, ◌-◌, ◌/◌, Bool, false, not, ◌&&◌, ◌||◌, List, map, eqb, length, get_or}
+use Rattle.std.specs.Prelude.{ℕ, ◌+◌, ◌*◌, ◌-◌, ◌/◌, Bool, false, not, ◌&&◌, ◌||◌, List, [], ◌∷◌, map, eqb, length, get_or, Option, Some, None}
 use Rattle.spec_schedules.specs.Lists.{range, any, all, filter}
 use Rattle.spec_schedules.specs.Permutations.{permutations, moved}
 use Rattle.spec_model.specs.Exchange.{together}
@@ -17,6 +17,11 @@ read_at log k = ((note_at log k).number, (note_at log k).source)
 -- the notes from place k on, up to so many
 unfoldable pub notes_from : List ℕ → ℕ → ℕ → List Note
 notes_from log k steps = map (note_at log) (range k (steps - k))
+
+-- a thread's reads, where its next one stands at this place or it has no more
+abbrev pub reads_on : List ℕ → ℕ → ℕ → Option ℕ → List (ℕ × Event)
+reads_on log steps t None = []
+reads_on log steps t (Some k) = read_at log k ∷ reads_in t (notes_from log (k + 1) steps)
 
 -- a note of a write by thread t
 abbrev pub write_by : ℕ → Note → Bool

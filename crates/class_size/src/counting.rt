@@ -13,15 +13,7 @@ fn goes(may: [bool; 36], row: [u8; 6]) -> bool
     requires { (t : ℕ) → t < 6 → get_or row t 0 < 6 }
     ensures { result ≡ goes_by may row }
 {
-    let mut t = 0;
-    while t < 6 {
-        let u = wide(row[t]);
-        if !may[t * 6 + u] {
-            return false;
-        }
-        t += 1;
-    }
-    true
+    (0..6).all(|t| may[t * 6 + wide(row[t])])
 }
 
 // In how many permutations of the table each thread goes where it may.
@@ -29,14 +21,12 @@ pub(crate) fn count(may: [bool; 36], table: &[u32; 720]) -> usize
     requires { map Six.unpacked table.now ≡ permutations }
     ensures { (result ≤ 720) × (result ≡ length (filter (goes_by may) permutations)) }
 {
+    // A loop, not `filter` and `count`: their closure would need `goes`'s clause of every row, and only those of the table have it.
     let mut n = 0;
-    let mut k = 0;
-    while k < 720 {
-        let row = unpacked(table[k]);
-        if goes(may, row) {
+    for row in table {
+        if goes(may, unpacked(*row)) {
             n += 1;
         }
-        k += 1;
     }
     n
 }

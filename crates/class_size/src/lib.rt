@@ -13,4 +13,4 @@ mod counting;
 mod class_call;
 
 pub use by_number::{permutation, permutation_table, unpacked};
-pub use class_call::{ClassAnswer, class_size};
+pub use class_call::class_size;

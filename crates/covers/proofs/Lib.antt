@@ -3,5 +3,7 @@
 pub mod Lacked
 -- the answers as the code gives them
 pub mod Called
+-- what `map_err` gives
+pub mod Mapped
 -- two files and room have exactly one answer
 pub mod Comparisons

@@ -1,66 +1,40 @@
 // The first listed schedule of a program with an outcome that another lacks, by their lists: the second's is walked once, the first's once
 // for each schedule of the second's up to that one.
-ghost use Rattle.std.specs.Prelude.{◌≡◌, List, ◌≤◌};
+ghost use Rattle.std.specs.Prelude.{◌≡◌};
 ghost use Rattle.file_decoder.specs.Compiled.{program_of};
-ghost use Rattle.spec_schedules.specs.Lists.{find};
-ghost use Rattle.spec_schedules.specs.Order.{Schedule};
 ghost use Rattle.spec_model.specs.Laws.{Admitted};
+ghost use Rattle.spec_model.specs.Model.{Full};
 ghost use Rattle.spec_across.proofs.Attained.{lacks_under, first_lacking};
+ghost use Rattle.listing_cursor.specs.Steps.{found_of};
+ghost use Rattle.outcome_lists.specs.Found.{Within};
 ghost use Rattle.listing_model.specs.ModelOf.{model_of};
-ghost use Rattle.listing_pages.specs.Page.{Rows};
-ghost use Rattle.outcome_lists.specs.FoundOf.{found_of};
 
 use file_decoder::Compiled;
-use listing_cursor::{beginning, is_end};
+use listing_cursor::Steps;
 use listing_model::Model;
-use listing_pages::next_page;
-use outcome_lists::{Coming, first_coming, none_found, outcome_of, row_at};
+use outcome_lists::{first_coming, first_passing, outcome_of};
 
-// The first of n rows whose schedule has an outcome that the first program lacks.
-fn lacking_among(
+// Whether the first program lacks the outcome of a full schedule of the second.
+fn lacks(model: Model, first: Compiled, other: Model, second: Compiled, schedule: &[u8]) -> bool
+    requires { Admitted (model_of model) (program_of first) × Admitted (model_of other) (program_of second) }
+    ensures { Full (model_of other) (program_of second) schedule.now
+        → result ≡ lacks_under (model_of model) (program_of first) (model_of other) (program_of second) schedule.now }
+{
+    let o = outcome_of(other, second, schedule);
+    first_coming(model, first, o).is_none()
+}
+
+// The first of the second program's list.
+pub(crate) fn first_lacking(
     model: Model,
     first: Compiled,
     other: Model,
     second: Compiled,
-    rows: &[u8],
-    n: usize,
-) -> Coming
-    requires { Admitted (model_of model) (program_of first) × Admitted (model_of other) (program_of second)
-        × ((ss : List Schedule) × Rows (model_of other) (program_of second) ss rows.now n) }
-    ensures few { result.steps ≤ 48 }
-    ensures first { (ss : List Schedule) → Rows (model_of other) (program_of second) ss rows.now n
-        → found_of result ≡ find (lacks_under (model_of model) (program_of first) (model_of other) (program_of second)) ss }
-{
-    let mut k = 0;
-    while k < n {
-        let r = row_at(other, rows, k);
-        let steps = r.steps;
-        let schedule = r.schedule;
-        let o = outcome_of(other, second, &schedule[..steps]);
-        let c = first_coming(model, first, o);
-        if !c.found {
-            return r;
-        }
-        k += 1;
-    }
-    none_found()
-}
-
-// The first of the second program's list, by pages of 800 bytes.
-pub(crate) fn first_lacking(model: Model, first: Compiled, other: Model, second: Compiled) -> Coming
+) -> Option<Steps<48>>
     requires { Admitted (model_of model) (program_of first) × Admitted (model_of other) (program_of second) }
-    ensures { (result.steps ≤ 48)
-        × (found_of result ≡ first_lacking (model_of model) (program_of first) (model_of other) (program_of second)) }
+    ensures short { Within (model_of other).need result }
+    ensures first { found_of result ≡ first_lacking (model_of model) (program_of first) (model_of other) (program_of second) }
 {
-    let mut rows = [0u8; 800];
-    let mut cursor = beginning();
-    while !is_end(cursor) {
-        let page = next_page(other, second, cursor, false, &mut rows);
-        let r = lacking_among(model, first, other, second, &rows, page.rows);
-        if r.found {
-            return r;
-        }
-        cursor = page.cursor;
-    }
-    none_found()
+    let lacking = |s: &[u8]| lacks(model, first, other, second, s);
+    first_passing(other, second, lacking)
 }

@@ -8,4 +8,4 @@ mod seeking;
 // The calls.
 mod covers_call;
 
-pub use covers_call::{CoversAnswer, covers, covers_models, covers_with};
+pub use covers_call::{CoversRefusal, covers, covers_models, covers_with};

@@ -1,9 +1,7 @@
 -- What came of reading.
-use Rattle.std.specs.Prelude.{ℕ, ◌≤◌, List, length}
-use Rattle.explorer.specs.declared.Input.{Input}
-use Rattle.explorer.specs.declared.Input.TheVariants.{Bytes, Failed}
+use Rattle.std.specs.Prelude.{ℕ, ◌≤◌, List, length, Result, Ok, Err}
 
 -- no more was read than the buffer has room for
-abbrev pub Within : Input → List ℕ → Type 0
-Within (Bytes n) file = n ≤ length file
-Within Failed file = Unit {0}
+abbrev pub Within : {E : Type 0} → Result ℕ E → List ℕ → Type 0
+Within (Ok n) file = n ≤ length file
+Within (Err e) file = Unit {0}

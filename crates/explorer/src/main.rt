@@ -12,32 +12,20 @@ use explorer_lines::{MOST_BYTES, begin, next};
 use std::io;
 use std::io::{Read, Write};
 
-// What came of reading.
-#[derive(Clone, Copy)]
-enum Input {
-    // The number of bytes that were read.
-    Bytes(usize),
-    Failed,
-}
-
-// Reads standard input to its end, or as much of it as there is room for.
-fn read_input(rt: &HostRuntime, file: &mut [u8]) -> Input
+// Reads standard input to its end, or as much of it as there is room for: how many bytes were read.
+fn read_input(rt: &HostRuntime, file: &mut [u8]) -> io::Result<usize>
     ensures { Within result file.new }
 {
     let mut input = rt.stdin();
     let mut at = 0;
     while at < file.len() {
-        match input.read(&mut file[at..]) {
-            Ok(n) => {
-                if n == 0 {
-                    return Input::Bytes(at);
-                }
-                at += n;
-            }
-            Err(_) => return Input::Failed,
+        let n = input.read(&mut file[at..])?;
+        if n == 0 {
+            break;
         }
+        at += n;
     }
-    Input::Bytes(at)
+    Ok(at)
 }
 
 // Prints the list of this file, or its refusal.
@@ -47,11 +35,10 @@ fn print(rt: &HostRuntime, file: &[u8]) -> io::Result<()> {
     let mut out = [0u8; MOST_BYTES];
     loop {
         let piece = next(listing, &mut out);
-        let n = piece.length;
-        if n == 0 {
+        if piece.length == 0 {
             return Ok(());
         }
-        if output.write_all(&out[..n]).is_err() {
+        if output.write_all(&out[..piece.length]).is_err() {
             return eprint!(rt; "standard output cannot be written\n");
         }
         listing = piece.listing;
@@ -61,7 +48,7 @@ fn print(rt: &HostRuntime, file: &[u8]) -> io::Result<()> {
 fn main(rt: HostRuntime) -> io::Result<()> {
     let mut file = [0u8; 4097];
     match read_input(&rt, &mut file) {
-        Input::Bytes(n) => print(&rt, &file[..n]),
-        Input::Failed => eprint!(rt; "standard input cannot be read\n"),
+        Ok(n) => print(&rt, &file[..n]),
+        Err(_) => eprint!(rt; "standard input cannot be read\n"),
     }
 }

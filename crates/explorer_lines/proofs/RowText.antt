@@ -1,13 +1,10 @@
 -- Rows of listed schedules, and the frames that are printed of them.
-use Prim.Native.Nat.{ℕ, suc, ◌+◌, ◌*◌, ◌<◌, ◌≤◌}
+use Prim.Native.Nat.{ℕ, suc, ◌+◌, ◌≤◌}
 use mathlib.Core.Path.{◌≡◌, refl, sym, ap, ap₂, ◌∙◌}
 use mathlib.Core.Bool.{Bool, true, false, cond}
 use mathlib.Core.List.{List, ◌∷◌}
 use native.Mathlib.Omega.{arith}
-use lib.ListN.{length, get_or, set, take, drop, length-drop}
-use lib.Seq.{take_all, length-take-le, get_or-take, get_or-drop}
-use Rattle.spec_file.specs.Over.{over}
-use Rattle.spec_file.proofs.Over.{over_whole}
+use lib.ListN.{length, get_or, set, take}
 use Rattle.spec_file.specs.Program.{Program}
 use Rattle.spec_schedules.specs.Order.{Schedule}
 use Rattle.spec_model.specs.Model.{failing}
@@ -40,15 +37,3 @@ flagged false = refl
 pub frame_is : (p : Program) (s : Schedule) → 0x50 ∷ cond (failing sc p s) 1 0 ∷ s ≡ schedule_frame p s
 unfolding schedule_frame
 frame_is p s = ap (λ (b : ℕ). 0x50 ∷ b ∷ s) (sym (flagged (failing sc p s)))
-
--- ---- a row copied byte by byte
--- all of it
-pub copy_all : (part held row : List ℕ) (i : ℕ) → length part ≤ i → length held ≤ length part → row ≡ over (take i part) held → row ≡ part
-copy_all part held row i h room e = e ∙ ap (λ (t : List ℕ). over t held) (take_all i part h) ∙ over_whole part held room
-
--- the part that is copied, where there are so many rows
-pub part_length : (rows : List ℕ) (k : ℕ) → k < 256 → length rows ≡ 6656 → length (take 26 (drop (k * 26) rows)) ≡ 26
-part_length rows k h e = length-take-le 26 (drop (k * 26) rows) (omega (arith, length-drop (k * 26) rows))
-
-pub part_byte : (rows : List ℕ) (from i : ℕ) → i < 26 → get_or rows (from + i) 0 ≡ get_or (take 26 (drop from rows)) i 0
-part_byte rows from i h = sym (get_or-take 26 (drop from rows) i 0 h ∙ get_or-drop from rows i 0)

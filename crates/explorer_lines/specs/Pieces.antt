@@ -11,40 +11,43 @@ use Rattle.spec_model.specs.Answers.{Counts}
 use Rattle.spec_sc.specs.Sequential.{sc}
 use Rattle.listing_cursor.specs.ListRows.{remaining}
 use Rattle.spec_calls.specs.Printed.{schedule_frame, count_frame, printed_frames, printed}
-use Rattle.explorer_lines.specs.declared.pieces.Stage.{Stage}
-use Rattle.explorer_lines.specs.declared.pieces.Stage.TheVariants.{Refused, Walking, Ended}
+use Rattle.explorer_lines.specs.declared.pieces.Walk.{Walk}
 use Rattle.explorer_lines.specs.declared.pieces.Listing.{Listing}
+use Rattle.explorer_lines.specs.declared.pieces.Listing.TheVariants.{Refused, Walking, Ended}
 
 -- each schedule has at most 24 steps
 abbrev pub Short : List Schedule → Type 0
 Short ss = Everywhere (λ s. length s ≤ 24) ss
 
 -- the listed schedules that are not printed yet
-unfoldable pub left : Listing → List Schedule
-left s = remaining sc (program_of s.program) false s.cursor
+unfoldable pub left : Walk → List Schedule
+left w = remaining sc (program_of w.program) false w.cursor
 
 -- what the two counts come to, with those that are not printed yet
-unfoldable pub counts : Listing → Counts
-counts s = record { listed = s.listed + length (left s); failed = s.failed + length (filter (failing sc (program_of s.program)) (left s)) }
+unfoldable pub counts : Walk → Counts
+counts w = record { listed = w.listed + length (left w); failed = w.failed + length (filter (failing sc (program_of w.program)) (left w)) }
 
 -- the frames that are left to print
-unfoldable pub frames_left : Stage → Listing → List (List ℕ)
-frames_left (Refused n k) s = printed_frames (refused n k)
-frames_left Walking s = map (schedule_frame (program_of s.program)) (left s) ++ (count_frame (counts s) ∷ [])
-frames_left Ended s = []
+unfoldable pub frames_left : Listing → List (List ℕ)
+frames_left (Refused r) = printed_frames (refused r.number r.place)
+frames_left (Walking w) = map (schedule_frame (program_of w.program)) (left w) ++ (count_frame (counts w) ∷ [])
+frames_left Ended = []
 
 -- the text that is left to print
 unfoldable pub rest : Listing → List ℕ
-rest s = text_of (frames_left s.stage s)
+rest s = text_of (frames_left s)
 
 -- what the walk along the list needs
-pub record Ready (s : Listing) : Type 0 where
-  pub well_formed : WellFormed (program_of s.program)
-  pub fits : s.listed + length (left s) < 2 ^ 64
-  pub few : s.failed ≤ s.listed
+pub record Ready (w : Walk) : Type 0 where
+  pub well_formed : WellFormed (program_of w.program)
+  pub fits : w.listed + length (left w) < 2 ^ 64
+  pub few : w.failed ≤ w.listed
 
+-- what printing needs: only the walk needs something
 abbrev pub Sound : Listing → Type 0
-Sound s = s.stage ≡ Walking → Ready s
+Sound (Refused r) = Unit {0}
+Sound (Walking w) = Ready w
+Sound Ended = Unit {0}
 
 -- all that is printed of this file is left
 pub record Begun (file : List ℕ) (s : Listing) : Type 0 where

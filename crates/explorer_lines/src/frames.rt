@@ -1,5 +1,5 @@
 // Lines of the output, each into the part of the buffer behind the last.
-ghost use Rattle.std.specs.Prelude.{◌≡◌, Bool, cond, List, [], ◌∷◌, map, ℕ, ◌+◌, ◌*◌, ◌/◌, ◌%◌, ◌<◌, ◌≤◌, length, take, drop};
+ghost use Rattle.std.specs.Prelude.{◌≡◌, Bool, cond, List, [], ◌∷◌, map, ℕ, ◌+◌, ◌*◌, ◌<◌, ◌≤◌, length, take, drop};
 ghost use Rattle.spec_file.specs.Program.{Program};
 ghost use Rattle.spec_file.specs.Decode.{refused};
 ghost use Rattle.spec_schedules.specs.Lists.{filter};
@@ -14,7 +14,7 @@ ghost use Rattle.explorer_lines.specs.Pieces.{Short};
 
 use file_lines::{wide, write};
 use search_tail::ROW;
-use spec_file::STEPS;
+use spec_file::{Refusal, STEPS};
 
 // The bytes of a page: 256 rows of 26 bytes.
 pub(crate) const PAGE_BYTES: usize = 6656;
@@ -33,11 +33,7 @@ fn row_at(rows: &[u8; PAGE_BYTES], k: usize) -> [u8; ROW]
 {
     let mut row = [0u8; ROW];
     let from = k * ROW;
-    let mut i = 0;
-    while i < ROW {
-        row[i] = rows[from + i];
-        i += 1;
-    }
+    row.copy_from_slice(&rows[from..from + ROW]);
     row
 }
 
@@ -46,8 +42,7 @@ fn steps_of(row: [u8; ROW]) -> usize
     ensures most { result ≤ 24 }
     ensures steps { (s : Schedule) (f : Bool) → row ≡ row_bytes 24 s f → length s ≤ 24 → result ≡ length s }
 {
-    let n = wide(row[0]);
-    if STEPS < n { STEPS } else { n }
+    wide(row[0]).min(STEPS)
 }
 
 // The line of the schedule in this row.
@@ -71,58 +66,29 @@ pub(crate) fn schedule_lines(out: &mut [u8], rows: &[u8; PAGE_BYTES], n: usize) 
 {
     let mut at = 0;
     let mut failed = 0;
-    let mut k = 0;
-    while k < n {
+    for k in 0..n {
         let row = row_at(rows, k);
         at += schedule_line(&mut out[at..], row);
         failed += wide(row[1]);
-        k += 1;
     }
-    Lines {
-        length: at,
-        failed: failed,
-    }
-}
-
-// One byte of a number, by the place value of that byte.
-fn byte_of(n: u64, place: u64) -> u8
-    requires { 0 < place }
-    ensures { result ≡ n / place % 256 }
-{
-    (n / place % 256) as u8
+    Lines { length: at, failed }
 }
 
 // The line of the two counts.
 pub(crate) fn count_line(out: &mut [u8], listed: u64, failed: u64) -> usize
     ensures { Wrote (count_frame (record { listed = listed; failed = failed }) ∷ []) out.old out.new result }
 {
-    let frame = [
-        0x51,
-        byte_of(listed, 0x100_0000_0000_0000),
-        byte_of(listed, 0x1_0000_0000_0000),
-        byte_of(listed, 0x100_0000_0000),
-        byte_of(listed, 0x1_0000_0000),
-        byte_of(listed, 0x100_0000),
-        byte_of(listed, 0x1_0000),
-        byte_of(listed, 0x100),
-        byte_of(listed, 1),
-        byte_of(failed, 0x100_0000_0000_0000),
-        byte_of(failed, 0x1_0000_0000_0000),
-        byte_of(failed, 0x100_0000_0000),
-        byte_of(failed, 0x1_0000_0000),
-        byte_of(failed, 0x100_0000),
-        byte_of(failed, 0x1_0000),
-        byte_of(failed, 0x100),
-        byte_of(failed, 1),
-    ];
+    let mut frame = [0x51u8; 17];
+    frame[1..9].copy_from_slice(&listed.to_be_bytes());
+    frame[9..].copy_from_slice(&failed.to_be_bytes());
     write(out, &frame)
 }
 
-// The line of a refusal.
-pub(crate) fn refusal_line(out: &mut [u8], number: u8, place: usize) -> usize
-    ensures { Wrote (printed_frames (refused number place)) out.old out.new result }
+// The line of a refusal: number and place, of which two bytes tell.
+pub(crate) fn refusal_line(out: &mut [u8], r: Refusal) -> usize
+    ensures { Wrote (printed_frames (refused r.number r.place)) out.old out.new result }
 {
-    let k = place as u64;
-    let frame = [0x52, number, byte_of(k, 0x100), byte_of(k, 1)];
+    let mut frame = [0x52, r.number, 0, 0];
+    frame[2..].copy_from_slice(&r.place.to_be_bytes()[6..]);
     write(out, &frame)
 }

@@ -6,4 +6,4 @@ mod frames;
 // The output, piece by piece.
 mod pieces;
 
-pub use pieces::{Listing, MOST_BYTES, Piece, Stage, begin, next};
+pub use pieces::{Listing, MOST_BYTES, Piece, Walk, begin, next};

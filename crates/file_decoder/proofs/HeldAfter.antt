@@ -8,8 +8,8 @@ use lib.ListN.{length, get_or, replicate, length-append, length-replicate}
 use lib.Dec.{ltb}
 use borrow.Author.Tests.{ltb-true, eq-eqb, ne_eqb}
 use Rattle.file_refusals.specs.declared.counts.Counts.{Counts}
-use Rattle.spec_file.specs.Frames.{Frame, byte, word, known, in_range, opens, declares, starts}
-use Rattle.spec_file.specs.Decode.{Placed, Reading, Start, fresh, thread_at, last_thread, all_accesses_in, is_given, value_at, frame_refusal, after}
+use Rattle.spec_file.specs.Frames.{Frame, byte, known, opens, declares, starts}
+use Rattle.spec_file.specs.Decode.{Placed, Reading, fresh, thread_at, last_thread, all_accesses_in, is_given, value_at, frame_refusal, after}
 use Rattle.file_refusals.specs.Held.{nothing, frame_at, no_instruction, class_from, Holds}
 use Rattle.file_decoder.specs.Held.{opened_counts, line_at, Lined}
 use Rattle.spec_file.proofs.DigitValues.{both}

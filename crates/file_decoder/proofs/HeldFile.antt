@@ -6,28 +6,32 @@ use mathlib.Core.List.{List, [], ◌∷◌}
 use lib.ListN.{length, get_or, take, drop, replicate, drop_of_length-le}
 use borrow.Author.Tests.{eq-eqb, ne_eqb, le-ltb, lt-ltb}
 use lib.Dec.{ltb}
+use Rattle.std.specs.Prelude.{Some, None}
+use Rattle.file_lines.specs.Numbers.{unless_zero}
+use Rattle.file_lines.proofs.Numbers.{unless_none, unless_some}
 use Rattle.spec_file.specs.Lists.{Ascends}
 use Rattle.spec_file.specs.Frame.{pairs}
 use Rattle.spec_file.specs.Split.{line_length}
 use Rattle.spec_file.specs.TextLines.{TextLine, split}
-use Rattle.spec_file.specs.Meaning.{framed, meaning}
+use Rattle.spec_file.specs.Meaning.{meaning}
 use Rattle.file_lines.specs.Meaning.{line_of}
 use Rattle.file_lines.specs.declared.reader.Line.TheVariants.{Frame, Remark, Broken}
 use Rattle.spec_file.proofs.Meaning.{framed_bytes}
 use Rattle.file_lines.proofs.Meaning.{spelt_as_frame, spelt_as_remark, spelt_as_broken}
 use Rattle.spec_file.proofs.TextLines.{whole, split_at, split_end}
 use Rattle.file_refusals.specs.declared.counts.Counts.{Counts}
-use Rattle.spec_file.specs.Decode.{Reading, fresh, thread_at, frame_refusal, after, refused, finish, read_lines, decode}
+use Rattle.spec_file.specs.Decode.{Placed, Reading, fresh, thread_at, frame_refusal, after, refused, finish, read_lines, decode}
 use Rattle.spec_file.specs.WellFormed.{Everywhere}
 use Rattle.file_refusals.specs.Held.{nothing, Bounded, Holds}
-use Rattle.file_decoder.specs.Held.{Lined, Grouped, Taken}
+use Rattle.file_decoder.specs.Held.{Lined, Numbered, Grouped, Taken}
 use Rattle.spec_file.proofs.Everywhere.{everywhere_get_d, everywhere_weaken}
-use Rattle.spec_file.proofs.Sound.{Alike, Sound, sound_fresh, sound_after}
+use Rattle.spec_file.proofs.Sound.{Good, Alike, Sound, sound_fresh, sound_after}
 use Rattle.file_decoder.proofs.HeldAfter.{held_fresh}
 
 -- the lines before position `at` have been read, and none was refused
 pub record Progress (file code rows : List ℕ) (s : Counts) (at number : ℕ) : Type 0 where
   pub within : at ≤ length file
+  pub positive : 1 ≤ number
   pub counted : number ≤ at + 1
   pub few : s.groups < number
   pub read : Reading
@@ -46,6 +50,7 @@ progress_start file code rows s h c l e =
     let f = held_fresh code rows c l in
     record {
       within = omega arith;
+      positive = omega arith;
       counted = omega arith;
       few = rw e (omega arith);
       read = fresh;
@@ -80,6 +85,12 @@ module _ (file code rows : List ℕ) (s : Counts) (at number : ℕ) (small : len
     apart = p.sound.apart;
   }
 
+  -- the lines that were read have numbers
+  pub progress_numbered : Numbered p.read
+  progress_numbered =
+      everywhere_weaken (Everywhere Good) (Everywhere (λ (x : Placed). 1 ≤ x.line))
+      (λ c. everywhere_weaken Good (λ (x : Placed). 1 ≤ x.line) (λ x g. g.numbered) c) p.read.threads p.sound.good
+
   -- the last line has no 0a
   pub read_unended : (end : ℕ) → at < length file → end ≡ at + line_length (drop at file) → end ≡ length file → decode file ≡ refused 2 number
   unfolding read_lines meaning
@@ -104,6 +115,7 @@ module _ (file code rows : List ℕ) (s : Counts) (at number : ℕ) (small : len
     unfolding read_lines meaning
     read_remark z = record {
       within = omega arith;
+      positive = omega arith;
       counted = let c = p.counted in omega arith;
       few = let f = p.few in omega arith;
       read = p.read;
@@ -119,25 +131,28 @@ module _ (file code rows : List ℕ) (s : Counts) (at number : ℕ) (small : len
       read_size = sym (spelt_as_frame line n z).1
 
       -- the line's frame is refused
-      pub read_refused : (k : ℕ) → k ≡ frame_refusal p.read (pairs line) → (k ≡ 0 → ⊥) → decode file ≡ refused k number
+      pub read_refused : (k : ℕ) → Some k ≡ unless_zero (frame_refusal p.read (pairs line)) → decode file ≡ refused k number
       unfolding read_lines meaning
-      read_refused k q r = here ∙ rw ((spelt_as_frame line n z).0, read_lines, ← q, ne_eqb k 0 r)
+      read_refused k e =
+          let q = unless_some (frame_refusal p.read (pairs line)) k (sym e) in
+          here ∙ rw ((spelt_as_frame line n z).0, read_lines, q.0, ne_eqb k 0 (λ z. omega arith))
 
       -- the line's frame passes
-      pub read_more : (k : ℕ) (code' rows' : List ℕ) (s' : Counts) → k ≡ frame_refusal p.read (pairs line) → k ≡ 0 → 1 ≤ number
+      pub read_more : (code' rows' : List ℕ) (s' : Counts) → None ≡ unless_zero (frame_refusal p.read (pairs line))
           → Taken line number code rows s code' rows' s' → Progress file code' rows' s' (end + 1) (number + 1)
       unfolding read_lines meaning
-      read_more k code' rows' s' q r one t =
-          let pass : frame_refusal p.read (pairs line) ≡ 0 = sym q ∙ r in
+      read_more code' rows' s' q t =
+          let pass : frame_refusal p.read (pairs line) ≡ 0 = unless_none _ (sym q) in
           let bytes = framed_bytes (whole line) (pairs line) (spelt_as_frame line n z).0 in
           record {
             within = omega arith;
+            positive = omega arith;
             counted = let c = p.counted in omega arith;
             few = let f = p.few in omega (arith, t.bounded);
             read = after number (pairs line) p.read;
             holds = t.holds p.read p.holds pass;
             lined = t.lined p.read p.holds p.lined pass;
-            sound = sound_after number p.read (pairs line) one bytes p.sound pass;
+            sound = sound_after number p.read (pairs line) p.positive bytes p.sound pass;
             rest = here ∙ rw ((spelt_as_frame line n z).0, read_lines, eq-eqb (frame_refusal p.read (pairs line)) 0 pass);
           }
 

@@ -1,10 +1,8 @@
 -- The program that the decoder hands over, read as document 01's program, and its answer read as an acceptance or a refusal's number and
 -- place.
-use Rattle.std.specs.Prelude.{ℕ, zero, suc, ◌+◌, Bool, true, false, List, [], ◌∷◌, eqb, get_or}
+use Rattle.std.specs.Prelude.{ℕ, zero, suc, ◌+◌, Bool, true, false, List, [], ◌∷◌, eqb, get_or, Result, Ok, Err}
 use Rattle.file_decoder.specs.declared.file.Compiled.{Compiled}
-use Rattle.file_decoder.specs.declared.file.Answer.{Answer}
-use Rattle.file_decoder.specs.declared.file.Verdict.{Verdict}
-use Rattle.file_decoder.specs.declared.file.Verdict.TheVariants.{Accepted, Refused}
+use Rattle.spec_file.specs.declared.refusal.Refusal.{Refusal}
 use Rattle.spec_file.specs.Program.{Program}
 use Rattle.spec_file.specs.Tabulate.{tabulate}
 use Rattle.file_rows.specs.Rows.{thread_code}
@@ -28,9 +26,6 @@ program_of c = record {
 }
 
 -- the answer in document 01's terms
-unfoldable pub verdict_of : Verdict → Program → Decoded
-verdict_of Accepted p = accepted p
-verdict_of (Refused n k) p = refused n k
-
-unfoldable pub answer_of : Answer → Decoded
-answer_of a = verdict_of a.verdict (program_of a.program)
+unfoldable pub answer_of : Result Compiled Refusal → Decoded
+answer_of (Ok c) = accepted (program_of c)
+answer_of (Err r) = refused r.number r.place

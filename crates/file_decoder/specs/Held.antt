@@ -65,10 +65,15 @@ pub record Lined (rows : List ℕ) (r : Reading) : Type 0 where
   pub size : length rows ≡ 96
   pub lines : (t i : ℕ) → i < length (thread_at r t) → get_or rows (t * 16 + i) 0 ≡ line_at r t i
 
+-- lines are numbered from 1
+abbrev pub Numbered : Reading → Type 0
+Numbered r = Everywhere (Everywhere (λ (x : Placed). 1 ≤ x.line)) r.threads
+
 -- one thread's instructions, as the code and the line numbers hold them
 pub record HeldThread (code rows : List ℕ) (t : ℕ) (xs : List Placed) : Type 0 where
   pub bytes : (i j : ℕ) → i < length xs → j < 16 → get_or code ((t * 16 + i) * 16 + j) 0 ≡ byte (get_or xs i no_instruction).code j
   pub lines : (i : ℕ) → i < length xs → get_or rows (t * 16 + i) 0 ≡ (get_or xs i no_instruction).line
+  pub numbered : (i : ℕ) → i < length xs → 1 ≤ (get_or xs i no_instruction).line
 
 -- all threads
 pub record HeldThreads (code rows : List ℕ) (n : ℕ) (ns : List ℕ) (cs : List (List Placed)) : Type 0 where

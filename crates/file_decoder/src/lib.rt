@@ -8,4 +8,4 @@ mod skip;
 // The whole file.
 mod file;
 
-pub use file::{Answer, Compiled, Verdict, decode};
+pub use file::{Compiled, decode};

@@ -14,16 +14,9 @@ fn opened(s: Counts) -> Counts
     requires { s.threads < 6 }
     ensures { result ≡ opened_counts s }
 {
-    let lengths = s.lengths;
-    let class = s.class;
-    let starting = s.starting;
     Counts {
         threads: s.threads + 1,
-        lengths: lengths,
-        accesses: s.accesses,
-        groups: s.groups,
-        class: class,
-        starting: starting,
+        ..s
     }
 }
 
@@ -33,13 +26,11 @@ fn mark(line: &[u8], n: usize, class: [usize; 6], g: usize) -> [usize; 6]
     ensures { result ≡ marked g (drop 1 (pairs line.now)) class }
 {
     let mut c = class;
-    let mut j = 1;
-    while j < n {
+    for j in 1..n {
         let t = field(line, j);
         if t < 6 {
             c[t] = g;
         }
-        j += 1;
     }
     c
 }
@@ -49,18 +40,9 @@ fn grouped(line: &[u8], n: usize, s: Counts) -> Counts
     requires { (n ≡ length (pairs line.now)) × (s.groups ≤ 4096) }
     ensures { result ≡ grouped_counts (drop 1 (pairs line.now)) s }
 {
-    let lengths = s.lengths;
-    let class = s.class;
-    let starting = s.starting;
-    let g = s.groups + 1;
-    Counts {
-        threads: s.threads,
-        lengths: lengths,
-        accesses: s.accesses,
-        groups: g,
-        class: mark(line, n, class, g),
-        starting: starting,
-    }
+    let groups = s.groups + 1;
+    let class = mark(line, n, s.class, groups);
+    Counts { groups, class, ..s }
 }
 
 // The counts with one starting value more, v at location l.
@@ -68,24 +50,10 @@ fn started(l: usize, v: u32, s: Counts) -> Counts
     requires { l < 8 }
     ensures { result ≡ started_counts l v s }
 {
-    let lengths = s.lengths;
-    let class = s.class;
-    let m = s.starting;
-    let mut values = m.values;
-    values[l] = v;
-    let mut given = m.given;
-    given[l] = true;
-    Counts {
-        threads: s.threads,
-        lengths: lengths,
-        accesses: s.accesses,
-        groups: s.groups,
-        class: class,
-        starting: Starting {
-            values: values,
-            given: given,
-        },
-    }
+    let mut starting = s.starting;
+    starting.values[l] = v;
+    starting.given[l] = true;
+    Counts { starting, ..s }
 }
 
 // The counts with one instruction more, of the first byte b, in the thread last opened.
@@ -93,23 +61,17 @@ fn extended(b: usize, s: Counts) -> Counts
     requires { Bounded s × (1 ≤ s.threads) }
     ensures { result ≡ extended_counts b s }
 {
-    let class = s.class;
-    let starting = s.starting;
     let mut lengths = s.lengths;
-    let last = s.threads - 1;
-    let used = lengths[last];
-    lengths[last] = used + 1;
-    let mut accesses = s.accesses;
-    if is_access(b) {
-        accesses += 1;
-    }
+    lengths[s.threads - 1] += 1;
+    let accesses = if is_access(b) {
+        s.accesses + 1
+    } else {
+        s.accesses
+    };
     Counts {
-        threads: s.threads,
-        lengths: lengths,
-        accesses: accesses,
-        groups: s.groups,
-        class: class,
-        starting: starting,
+        lengths,
+        accesses,
+        ..s
     }
 }
 
@@ -126,19 +88,16 @@ pub(crate) fn taken(
     ensures { Taken line.now number code.old rows.old s code.new rows.new result }
 {
     let b = field(line, 0);
-    if b == 0x01 {
-        return opened(s);
+    match b {
+        0x01 => opened(s),
+        0x02 => grouped(line, n, s),
+        0x03 => started(field(line, 1), word_at(line, 2), s),
+        _ => {
+            let last = s.threads - 1;
+            let row = last * 16 + s.lengths[last];
+            put_row(code, row, line, n);
+            rows[row] = number;
+            extended(b, s)
+        }
     }
-    if b == 0x02 {
-        return grouped(line, n, s);
-    }
-    if b == 0x03 {
-        return started(field(line, 1), word_at(line, 2), s);
-    }
-    let lengths = s.lengths;
-    let last = s.threads - 1;
-    let row = last * 16 + lengths[last];
-    put_row(code, row, line, n);
-    rows[row] = number;
-    extended(b, s)
 }

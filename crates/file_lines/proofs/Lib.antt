@@ -4,3 +4,5 @@ pub mod Meaning
 -- What the proofs of this crate's loops lean on, and worked lines.
 pub mod Passed
 pub mod Filled
+-- what an answer says of the number that it stands for
+pub mod Numbers

@@ -4,50 +4,35 @@ ghost use Rattle.std.specs.Prelude.{◌/◌, ◌%◌, ◌<◌, ◌≡◌};
 ghost use Rattle.spec_file.specs.Digit.{lower, digit, value, digit_of};
 
 // A to F as a to f; every other byte as it stands.
+#[tactic(auto, unfolding(spec_file::specs::Digit::lower))]
 fn lower(b: u8) -> u8
     ensures { result ≡ lower b }
 {
-    if b < 65 {
-        return b;
+    match b {
+        65..=70 => b + 32,
+        _ => b,
     }
-    if b <= 70 {
-        return b + 32;
-    }
-    b
 }
 
 // Whether the byte is a digit.
+#[tactic(auto, unfolding(spec_file::specs::Digit::digit))]
 pub(crate) fn is_digit(b: u8) -> bool
     ensures { result ≡ digit b }
 {
-    let d = lower(b);
-    if 97 <= d {
-        return d <= 102;
-    }
-    if d < 48 {
-        return false;
-    }
-    d <= 57
+    matches!(lower(b), 48..=57 | 97..=102)
 }
 
 // What the digit is worth; 0 for a byte that is no digit.
+#[tactic(auto, unfolding(spec_file::specs::Digit::value))]
 pub(crate) fn value_of(b: u8) -> u8
     ensures { (result ≡ value b) × (result < 16) }
 {
     let d = lower(b);
-    if d < 48 {
-        return 0;
+    match d {
+        48..=57 => d - 48,
+        97..=102 => d - 87,
+        _ => 0,
     }
-    if d <= 57 {
-        return d - 48;
-    }
-    if d < 97 {
-        return 0;
-    }
-    if d <= 102 {
-        return d - 87;
-    }
-    0
 }
 
 // The digit of a byte's larger part.
@@ -65,12 +50,10 @@ pub(crate) fn low(b: u8) -> u8
 }
 
 // The digit that is worth n.
+#[tactic(auto, unfolding(spec_file::specs::Digit::digit_of))]
 fn digit_of(n: u8) -> u8
     requires { n < 16 }
     ensures { result ≡ digit_of n }
 {
-    if n < 10 {
-        return 48 + n;
-    }
-    87 + n
+    if n < 10 { 48 + n } else { 87 + n }
 }

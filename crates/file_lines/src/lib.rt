@@ -11,7 +11,10 @@ mod splitter;
 mod writer;
 // Bytes as larger numbers, also those of a line's frame.
 mod fields;
+// A choice of two values by a flag.
+mod choosing;
 
+pub use choosing::choose;
 pub use fields::{field, wide};
 pub use reader::{Line, byte_at, read};
 pub use splitter::line_end;

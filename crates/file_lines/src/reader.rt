@@ -1,5 +1,6 @@
 // One line of a text, handed over without its 0a.
-ghost use Rattle.std.specs.Prelude.{◌≡◌, get_or};
+ghost use Rattle.std.specs.Prelude.{◌≡◌, ◌↔◌, get_or, IsTrue, EachIndex, slice_index};
+ghost use Rattle.spec_file.specs.Digit.{digit};
 ghost use Rattle.spec_file.specs.Frame.{pairs};
 ghost use Rattle.file_lines.specs.Meaning.{line_of};
 
@@ -16,6 +17,13 @@ pub enum Line {
     Broken,
 }
 
+// Whether every character of the line is a digit.
+fn all_digits(line: &[u8]) -> bool
+    ensures { IsTrue result ↔ EachIndex line.now (λ k. IsTrue (digit (slice_index line.now k))) }
+{
+    line.iter().all(|b| is_digit(*b))
+}
+
 // Whether the line is a remark or a frame, and of how many bytes.
 pub fn read(line: &[u8]) -> Line
     ensures { result ≡ line_of line.now }
@@ -26,17 +34,7 @@ pub fn read(line: &[u8]) -> Line
     if line[0] == 35 {
         return Line::Remark;
     }
-    let mut i = 0;
-    while i + 1 < line.len() {
-        if !is_digit(line[i]) {
-            return Line::Broken;
-        }
-        if !is_digit(line[i + 1]) {
-            return Line::Broken;
-        }
-        i += 2;
-    }
-    if i < line.len() {
+    if line.len() % 2 != 0 || !all_digits(line) {
         return Line::Broken;
     }
     Line::Frame(line.len() / 2)

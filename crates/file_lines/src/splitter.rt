@@ -7,12 +7,10 @@ ghost use Rattle.spec_file.specs.Split.{line_length};
 pub fn line_end(text: &[u8], from: usize) -> usize
     ensures { result ≡ from + line_length (drop from text.now) }
 {
-    let mut i = from;
-    while i < text.len() {
+    for i in from..text.len() {
         if text[i] == 10 {
             return i;
         }
-        i += 1;
     }
-    i
+    text.len().max(from)
 }

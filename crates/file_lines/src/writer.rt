@@ -15,12 +15,9 @@ pub fn write(out: &mut [u8], bytes: &[u8]) -> usize
     if out.len() < 2 * n + 1 {
         return 0;
     }
-    for k in 0..n {
-        let b = bytes[k];
-        let x = high(b);
-        let y = low(b);
-        out[2 * k] = x;
-        out[2 * k + 1] = y;
+    for (k, &b) in bytes.iter().enumerate() {
+        out[2 * k] = high(b);
+        out[2 * k + 1] = low(b);
     }
     out[2 * n] = 10;
     2 * n + 1

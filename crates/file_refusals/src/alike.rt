@@ -14,10 +14,7 @@ fn same_code(code: &Code, lengths: [usize; 6], t: usize, u: usize) -> bool
     ensures { result ≡ code_agrees code.now lengths t u }
 {
     let n = lengths[t];
-    if n != lengths[u] {
-        return false;
-    }
-    same_bytes(code, t * 256, u * 256, n * 16)
+    n == lengths[u] && same_bytes(code, t * 256, u * 256, n * 16)
 }
 
 // Whether the threads that a line of n bytes declares alike may be.
@@ -30,20 +27,12 @@ pub(crate) fn members_fit(line: &[u8], n: usize, code: &Code, s: Counts) -> bool
     if !is_free(s, t) {
         return false;
     }
-    let mut j = 2;
-    while j < n {
+    for j in 2..n {
         let u = field(line, j);
-        if !is_free(s, u) {
-            return false;
-        }
-        if u <= t {
-            return false;
-        }
-        if !same_code(code, lengths, t, u) {
+        if !is_free(s, u) || u <= t || !same_code(code, lengths, t, u) {
             return false;
         }
         t = u;
-        j += 1;
     }
     true
 }

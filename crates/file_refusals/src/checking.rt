@@ -1,5 +1,6 @@
-// The number by which a line's frame is refused: 3, 4, 5, 6, 40 or 8, and 0 where it passes.
+// The number by which a line's frame is refused: 3, 4, 5, 6, 40 or 8, if it is.
 ghost use Rattle.std.specs.Prelude.{◌≡◌, ◌<◌, ◌≤◌, ◌&&◌, leb, length};
+ghost use Rattle.file_lines.specs.Numbers.{unless_zero};
 ghost use Rattle.spec_file.specs.Frame.{pairs};
 ghost use Rattle.spec_file.specs.Decode.{Reading, frame_refusal};
 ghost use Rattle.file_refusals.specs.Held.{Holds, Bounded, opening_refusal, starting_refusal, instruction_refusal};
@@ -14,94 +15,67 @@ use spec_file::STEPS;
 pub fn is_access(b: usize) -> bool
     ensures { result ≡ (leb 0x10 b && leb b 0x13) }
 {
-    if b < 0x10 {
-        return false;
-    }
-    b <= 0x13
+    matches!(b, 0x10..=0x13)
 }
 
 // The refusal of a frame that opens a thread.
-fn opening(s: Counts) -> u8
-    ensures { result ≡ opening_refusal s }
+fn opening(s: Counts) -> Option<u8>
+    ensures { result ≡ unless_zero (opening_refusal s) }
 {
     if s.groups != 0 {
-        return 5;
+        return Some(5);
     }
-    if s.threads < 6 {
-        return 0;
-    }
-    6
+    if 6 <= s.threads { Some(6) } else { None }
 }
 
 // The refusal of a frame that lets location l start with a value.
-fn starting(l: usize, s: Counts) -> u8
+fn starting(l: usize, s: Counts) -> Option<u8>
     requires { l < 8 }
-    ensures { result ≡ starting_refusal l s }
+    ensures { result ≡ unless_zero (starting_refusal l s) }
 {
-    if s.threads != 0 {
-        return 40;
+    if s.threads != 0 || s.groups != 0 || s.starting.given[l] {
+        return Some(40);
     }
-    if s.groups != 0 {
-        return 40;
-    }
-    let m = s.starting;
-    if m.given[l] {
-        return 40;
-    }
-    0
+    None
 }
 
 // The refusal of an instruction with the first byte b.
-fn instruction(b: usize, s: Counts) -> u8
+fn instruction(b: usize, s: Counts) -> Option<u8>
     requires { s.threads ≤ 6 }
-    ensures { result ≡ instruction_refusal b s }
+    ensures { result ≡ unless_zero (instruction_refusal b s) }
 {
-    if s.groups != 0 {
-        return 5;
+    if s.groups != 0 || s.threads == 0 {
+        return Some(5);
     }
-    if s.threads == 0 {
-        return 5;
+    if 16 <= s.lengths[s.threads - 1] || is_access(b) && STEPS <= s.accesses {
+        return Some(6);
     }
-    let last = s.threads - 1;
-    if 16 <= s.lengths[last] {
-        return 6;
-    }
-    if is_access(b) {
-        if STEPS <= s.accesses {
-            return 6;
-        }
-        return 0;
-    }
-    0
+    None
 }
 
 // The refusal of the frame of n bytes on a line, after what has been read.
-pub fn refusal(line: &[u8], n: usize, code: &Code, s: Counts) -> u8
+pub fn refusal(line: &[u8], n: usize, code: &Code, s: Counts) -> Option<u8>
     requires { Bounded s × (n ≡ length (pairs line.now)) }
-    ensures { (r : Reading) → Holds code.now s r → result ≡ frame_refusal r (pairs line.now) }
+    ensures { (r : Reading) → Holds code.now s r → result ≡ unless_zero (frame_refusal r (pairs line.now)) }
 {
     let b = field(line, 0);
     let k = kind_of(b);
-    if n < k.least {
-        return 3;
-    }
-    if k.most < n {
-        return 3;
+    if n < k.least || k.most < n {
+        return Some(3);
     }
     if !in_range(line, k) {
-        return 4;
+        return Some(4);
     }
-    if b == 0x01 {
-        return opening(s);
-    }
-    if b == 0x02 {
-        if members_fit(line, n, code, s) {
-            return 0;
+    match b {
+        0x01 => opening(s),
+        0x02 => {
+            if members_fit(line, n, code, s) {
+                None
+            } else {
+                Some(8)
+            }
         }
-        return 8;
+        0x03 => starting(field(line, 1), s),
+        _ => instruction(b, s),
     }
-    if b == 0x03 {
-        return starting(field(line, 1), s);
-    }
-    instruction(b, s)
 }

@@ -43,11 +43,5 @@ pub fn none_yet() -> Counts
 pub(crate) fn is_free(s: Counts, t: usize) -> bool
     ensures { result ≡ (ltb t s.threads && (ltb t 6 && eqb (get_or s.class t 0) 0)) }
 {
-    if s.threads <= t {
-        return false;
-    }
-    if 6 <= t {
-        return false;
-    }
-    s.class[t] == 0
+    t < s.threads && t < 6 && s.class[t] == 0
 }

@@ -1,45 +1,27 @@
 -- Two stretches of the code that agree byte for byte.
-use Prim.Native.Nat.{ℕ, zero, suc, ◌+◌, ◌-◌, ◌<◌}
+use Prim.Native.Nat.{ℕ, zero, suc, ◌+◌, ◌<◌, ◌≤◌}
+use native.Mathlib.Numerals.{add-one}
 use native.Mathlib.Omega.{arith}
 use native.Mathlib.Nat.{add-zero}
 use mathlib.Core.Path.{◌≡◌, refl, ◌∙◌, ap, sym}
-use mathlib.Core.Bool.{true, false, ◌&&◌}
+use mathlib.Core.Bool.{Bool, true, ◌&&◌}
 use mathlib.Core.List.{List}
 use lib.Dec.{eqb}
-use lib.ListN.{get_or}
-use borrow.Author.Tests.{eq-eqb, ne_eqb, eqb-true}
+use lib.ListN.{get_or, length, take, drop}
+use lib.Seq.{drop-cons}
+use lib.Pointwise.{pointwise}
+use borrow.Author.Tests.{eq-eqb, eqb-true}
 use Rattle.file_rows.specs.Bytes.{agree}
 use Rattle.spec_file.proofs.DigitValues.{both}
 
--- one byte of the stretch, and the rest
-agree_step : (code : List ℕ) (a b n k : ℕ) → k < n
-    → agree code (a + k) (b + k) (n - k) ≡ (eqb (get_or code (a + k) 0) (get_or code (b + k) 0) && agree code (a + (k + 1)) (b + (k + 1)) (n - (k + 1)))
+-- the two stretches as lists, compared
+pub agree_parts : (code : List ℕ) (a b n : ℕ) → a + n ≤ length code → b + n ≤ length code
+    → pointwise eqb (take n (drop a code)) (take n (drop b code)) ≡ agree code a b n
 unfolding agree
-agree_step code a b n k h =
-    let m : n - k ≡ suc (n - (k + 1)) = omega arith in
-    let p : a + k + 1 ≡ a + (k + 1) = omega arith in
-    let q : b + k + 1 ≡ b + (k + 1) = omega arith in
-    ap (agree code (a + k) (b + k)) m
-    ∙ ap (λ (i : ℕ). eqb (get_or code (a + k) 0) (get_or code (b + k) 0) && agree code i (b + k + 1) (n - (k + 1))) p
-    ∙ ap (λ (i : ℕ). eqb (get_or code (a + k) 0) (get_or code (b + k) 0) && agree code (a + (k + 1)) i (n - (k + 1))) q
-
--- a byte that agrees leaves the rest
-pub agree_more : (code : List ℕ) (a b n k : ℕ) → k < n → get_or code (a + k) 0 ≡ get_or code (b + k) 0
-    → agree code (a + k) (b + k) (n - k) ≡ agree code (a + (k + 1)) (b + (k + 1)) (n - (k + 1))
-agree_more code a b n k h e = agree_step code a b n k h ∙ rw (eq-eqb (get_or code (a + k) 0) (get_or code (b + k) 0) e)
-
--- a byte that does not decides
-pub agree_differ : (code : List ℕ) (a b n k : ℕ) → k < n → (get_or code (a + k) 0 ≡ get_or code (b + k) 0 → ⊥) → agree code (a + k) (b + k) (n - k) ≡ false
-agree_differ code a b n k h e = agree_step code a b n k h ∙ rw (ne_eqb (get_or code (a + k) 0) (get_or code (b + k) 0) e)
-
-pub agree_start : (code : List ℕ) (a b n : ℕ) → agree code a b n ≡ agree code (a + 0) (b + 0) (n - 0)
-agree_start code a b n =
-    let m : n - 0 ≡ n = omega arith in
-    sym (rw (add-zero a, add-zero b, m))
-
-pub agree_none : (code : List ℕ) (a b n : ℕ) → n ≡ 0 → agree code a b n ≡ true
-unfolding agree
-agree_none code a b n e = rw e
+agree_parts code a b zero h k = refl
+agree_parts code a b (suc n) h k =
+    rw (drop-cons code a 0 (omega arith), drop-cons code b 0 (omega arith), ← add-one a, ← add-one b)
+    (ap (λ (r : Bool). eqb (get_or code a 0) (get_or code b 0) && r) (agree_parts code (a + 1) (b + 1) n (omega arith) (omega arith)))
 
 -- what `agree` means
 pub agree_true : (code : List ℕ) (a b n : ℕ) → agree code a b n ≡ true → (k : ℕ) → k < n → get_or code (a + k) 0 ≡ get_or code (b + k) 0

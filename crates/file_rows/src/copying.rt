@@ -7,9 +7,5 @@ pub fn put_front(out: &mut [u8], bytes: &[u8], n: usize)
     requires { (n ≤ length bytes.now) × (n ≤ length out.old) }
     ensures { out.new ≡ over (take n bytes.now) out.old }
 {
-    let mut k = 0;
-    while k < n {
-        out[k] = bytes[k];
-        k += 1;
-    }
+    out[..n].copy_from_slice(&bytes[..n]);
 }

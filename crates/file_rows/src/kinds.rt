@@ -1,8 +1,24 @@
 // The kind that a first byte names.
 ghost use Rattle.std.specs.Prelude.{◌≡◌};
-ghost use Rattle.spec_file.specs.Kinds.{row, own_kinds, lookup, kind_of};
+ghost use Rattle.spec_file.specs.Kinds.{row, kind_of};
 
 use spec_file::Kind;
+
+// A kind without fields.
+fn bare(byte: usize, least: usize, most: usize) -> Kind
+    ensures { result ≡ row byte least most 0 0 0 0 0 }
+{
+    Kind {
+        byte,
+        least,
+        most,
+        register: 0,
+        location: 0,
+        first: 0,
+        second: 0,
+        skip: 0,
+    }
+}
 
 // A kind of one length, without a skip.
 fn plain(
@@ -16,14 +32,11 @@ fn plain(
     ensures { result ≡ row byte size size register location first second 0 }
 {
     Kind {
-        byte: byte,
-        least: size,
-        most: size,
-        register: register,
-        location: location,
-        first: first,
-        second: second,
-        skip: 0,
+        register,
+        location,
+        first,
+        second,
+        ..bare(byte, size, size)
     }
 }
 
@@ -32,82 +45,27 @@ fn skipping(byte: usize) -> Kind
     ensures { result ≡ row byte 8 8 1 0 2 0 7 }
 {
     Kind {
-        byte: byte,
-        least: 8,
-        most: 8,
-        register: 1,
-        location: 0,
-        first: 2,
-        second: 0,
         skip: 7,
+        ..plain(byte, 8, 1, 0, 2, 0)
     }
-}
-
-// A kind without fields.
-fn bare(byte: usize, least: usize, most: usize) -> Kind
-    ensures { result ≡ row byte least most 0 0 0 0 0 }
-{
-    Kind {
-        byte: byte,
-        least: least,
-        most: most,
-        register: 0,
-        location: 0,
-        first: 0,
-        second: 0,
-        skip: 0,
-    }
-}
-
-// The kind of what a thread does by itself, by its first byte.
-fn own_kind(b: usize) -> Kind
-    ensures { result ≡ lookup own_kinds b }
-{
-    if b == 0x20 {
-        return plain(0x20, 7, 1, 0, 2, 0);
-    }
-    if b == 0x21 {
-        return plain(0x21, 7, 1, 0, 2, 0);
-    }
-    if b == 0x22 {
-        return skipping(0x22);
-    }
-    if b == 0x23 {
-        return plain(0x23, 7, 1, 0, 2, 0);
-    }
-    if b == 0x24 {
-        return skipping(0x24);
-    }
-    if b == 0x25 {
-        return plain(0x25, 7, 1, 0, 2, 0);
-    }
-    bare(b, 1, 0)
 }
 
 // The kind that a first byte names; for an unknown byte one that no length fits.
+#[tactic(auto, unfolding(spec_file::specs::Kinds::kind_of, spec_file::specs::Kinds::lookup, spec_file::specs::Kinds::kinds))]
 pub fn kind_of(b: usize) -> Kind
     ensures { result ≡ kind_of b }
 {
-    if b == 0x01 {
-        return bare(0x01, 1, 1);
+    match b {
+        0x01 => bare(b, 1, 1),
+        0x02 => bare(b, 3, 7),
+        0x03 => plain(b, 6, 0, 1, 0, 0),
+        0x10 => plain(b, 7, 0, 1, 2, 0),
+        0x11 => plain(b, 3, 1, 2, 0, 0),
+        0x12 => plain(b, 8, 1, 2, 3, 0),
+        0x13 => plain(b, 13, 1, 2, 3, 8),
+        0x20 | 0x21 | 0x23 => plain(b, 7, 1, 0, 2, 0),
+        0x22 | 0x24 => skipping(b),
+        0x25 => plain(b, 7, 1, 0, 2, 0),
+        _ => bare(b, 1, 0),
     }
-    if b == 0x02 {
-        return bare(0x02, 3, 7);
-    }
-    if b == 0x03 {
-        return plain(0x03, 6, 0, 1, 0, 0);
-    }
-    if b == 0x10 {
-        return plain(0x10, 7, 0, 1, 2, 0);
-    }
-    if b == 0x11 {
-        return plain(0x11, 3, 1, 2, 0, 0);
-    }
-    if b == 0x12 {
-        return plain(0x12, 8, 1, 2, 3, 0);
-    }
-    if b == 0x13 {
-        return plain(0x13, 13, 1, 2, 3, 8);
-    }
-    own_kind(b)
 }

@@ -6,7 +6,7 @@ ghost use Rattle.file_rows.specs.Rows.{row_at};
 ghost use Rattle.file_rows.specs.Bytes.{agree, Written};
 
 use crate::fields::join;
-use file_lines::wide;
+use file_lines::{byte_at, wide};
 use spec_file::Operand;
 
 // The bytes of a program's code: 96 rows of sixteen.
@@ -22,9 +22,10 @@ pub fn operand_at(code: &Code, row: usize, j: usize) -> Operand
     let at = row * 16 + j;
     let v = join(code[at + 1], code[at + 2], code[at + 3], code[at + 4]);
     if code[at] == 1 {
-        return Operand::Register(v);
+        Operand::Register(v)
+    } else {
+        Operand::Constant(v)
     }
-    Operand::Constant(v)
 }
 
 // How many instructions the one in row `row` may skip.
@@ -34,14 +35,11 @@ pub fn skip_at(code: &Code, row: usize) -> usize
 {
     let at = row * 16;
     let b = code[at];
-    let n = wide(code[at + 7]);
-    if b == 0x22 {
-        return n;
+    if b == 0x22 || b == 0x24 {
+        wide(code[at + 7])
+    } else {
+        0
     }
-    if b == 0x24 {
-        return n;
-    }
-    0
 }
 
 // Whether the n bytes from a on and those from b on are the same.
@@ -49,14 +47,7 @@ pub fn same_bytes(code: &Code, a: usize, b: usize, n: usize) -> bool
     requires { (a + n ≤ 1536) × (b + n ≤ 1536) }
     ensures { result ≡ agree code.now a b n }
 {
-    let mut k = 0;
-    while k < n {
-        if code[a + k] != code[b + k] {
-            return false;
-        }
-        k += 1;
-    }
-    true
+    code[a..a + n] == code[b..b + n]
 }
 
 // Puts the n bytes of the line's frame into row `row`.
@@ -65,9 +56,7 @@ pub fn put_row(code: &mut Code, row: usize, line: &[u8], n: usize)
     ensures { Written code.old (row * 16) (pairs line.now) n code.new }
 {
     let at = row * 16;
-    let mut j = 0;
-    while j < n {
-        code[at + j] = file_lines::byte_at(line, j);
-        j += 1;
+    for j in 0..n {
+        code[at + j] = byte_at(line, j);
     }
 }

@@ -9,7 +9,6 @@ use lib.ListN.{length, replicate}
 use Rattle.spec_file.specs.Program.{Program}
 use Rattle.spec_schedules.specs.System.{run}
 use Rattle.spec_sc.specs.State.{start}
-use Rattle.spec_sc.specs.Graph.{end_of}
 use Rattle.spec_sc.proofs.Lawful.{lawful, start_24}
 use Rattle.machine.specs.declared.state.Machine.{Machine}
 use Rattle.spec_force.specs.Game.{hostile}

@@ -4,4 +4,4 @@
 // The call on a program file.
 mod answering;
 
-pub use answering::{ForceAnswer, force, force_with};
+pub use answering::{Winner, force, force_with};

@@ -1,17 +1,23 @@
 -- Sides as flags, and what a thread of a side is to the code.
-use Prim.Native.Nat.{ℕ, ◌+◌, ◌<◌, ◌≤◌}
-use native.Mathlib.Omega.{arith}
-use mathlib.Core.Path.{◌≡◌, refl, sym, ap, ◌∙◌}
-use mathlib.Core.Bool.{Bool, true, false, not, true≢false}
-use mathlib.Core.List.{List, Memᴰ}
+use Prim.Native.Nat.{ℕ}
+use mathlib.Core.Path.{◌≡◌, refl, sym, ◌∙◌}
+use mathlib.Core.Bool.{Bool, true, false, not, beq, ◌&&◌, ◌||◌}
+use mathlib.Core.List.{List, [], ◌∷◌}
+use denote.Enum.Bare.{sameb}
+use Rattle.std.specs.List.{list_any, range_with_len}
 use Rattle.spec_schedules.specs.Lists.{both, any, range}
-use Rattle.spec_schedules.proofs.Lists.{true_both, false_both, any_yes, any_of, in_range_lem, of_range}
+use Rattle.spec_schedules.proofs.Lists.{true_both, false_both}
 use Rattle.spec_sc.specs.State.{State, SC, enabled}
 use Rattle.spec_schedules.specs.Sets.{has}
 use Rattle.spec_force.specs.Game.{Side, hostile, friendly, other, same, mine, able}
 use Rattle.spec_force.specs.Forced.{owner_in, game_of}
-use Rattle.spec_force.proofs.Sides.{able_of}
-use Rattle.spec_sc.proofs.Lawful.{lawful}
+use Rattle.machine.specs.declared.state.Machine.{Machine}
+use Rattle.machine.specs.Held.{Holds}
+use Rattle.machine.specs.Asked.{enabled_by}
+use Rattle.machine.proofs.HeldAsking.{enabled_by_lem}
+use Rattle.force_moves.specs.declared.sides.Side as Code
+use Rattle.force_moves.specs.declared.sides.Side.TheVariants.{Hostile, Friendly}
+use Rattle.force_moves.specs.contracts.sides.Side.{the_type}
 use Rattle.force_moves.specs.Standing.{side_of}
 
 -- whose a thread is, by the set
@@ -31,28 +37,51 @@ own_friendly set t = go (has set t) refl
     go true e = rw (e, owner_in)
     go false e = rw (e, owner_in)
 
--- a thread that may not step is nobody's; one that may is its owner's
-pub mine_not : (set : ℕ) (y : Side) (σ : State) (t : ℕ) → enabled σ t ≡ false → mine (game_of set) y σ t ≡ false
-unfolding mine
-mine_not set y σ t e = rw e (false_both (same (owner_in set t) y))
-
-pub mine_owner : (set : ℕ) (y : Side) (σ : State) (t : ℕ) → enabled σ t ≡ true → mine (game_of set) y σ t ≡ same (owner_in set t) y
-unfolding mine
-mine_owner set y σ t e = rw e (true_both (same (owner_in set t) y))
-
--- some of the six, or none
-pub able_at : (set : ℕ) (y : Side) (σ : State) (t : ℕ) → mine (game_of set) y σ t ≡ true → true ≡ able (game_of set) y σ
-able_at set y σ t e = sym (able_of (game_of set) lawful y σ t e)
-
-pub able_none : (set : ℕ) (y : Side) (σ : State) → ((t : ℕ) → t < 6 → mine (game_of set) y σ t ≡ false) → false ≡ able (game_of set) y σ
-unfolding able
-able_none set y σ h = go (any (mine (game_of set) y σ) SC.names) refl
+-- a side in the code
+pub own_by : (s : Code.Side) (set t : ℕ) → beq (has set t) (sameb the_type s Hostile) ≡ same (owner_in set t) (side_of s)
+unfolding side_of
+own_by Hostile set t = same_flag (has set t) ∙ own_hostile set t
   where
-    go : (b : Bool) → any (mine (game_of set) y σ) SC.names ≡ b → false ≡ any (mine (game_of set) y σ) SC.names
-    go true e =
-        let r = any_yes (mine (game_of set) y σ) SC.names e in
-        absurd (true≢false (sym r.2 ∙ h r.0 (omega (arith, (of_range 0 6 r.0 r.1).1))))
-    go false e = sym e
+    same_flag : (b : Bool) → beq b true ≡ b
+    same_flag true = refl
+    same_flag false = refl
+own_by Friendly set t = not_flag (has set t) ∙ own_friendly set t
+  where
+    not_flag : (b : Bool) → beq b false ≡ not b
+    not_flag true = refl
+    not_flag false = refl
+
+-- what the code asks of a thread: whether it has not ended and is the side's
+abbrev pub asks_own : List ℕ → Machine → ℕ → Side → ℕ → Bool
+asks_own lengths m set y t = enabled_by lengths m t && same (owner_in set t) y
+
+pub own_mine : (set : ℕ) (y : Side) (σ : State) (code lengths : List ℕ) (m : Machine) → Holds code lengths m σ → (t : ℕ) → asks_own lengths m set y t ≡ mine (game_of set) y σ t
+unfolding mine
+own_mine set y σ code lengths m held t = go (enabled_by lengths m t) (enabled σ t) (enabled_by_lem held t)
+  where
+    go : (a b : Bool) → a ≡ b → (a && same (owner_in set t) y) ≡ both b (same (owner_in set t) y)
+    go true true e = sym (true_both (same (owner_in set t) y))
+    go false false e = sym (false_both (same (owner_in set t) y))
+    go true false e = cc
+    go false true e = cc
+
+-- the library's question whether some member passes
+any_by : (f g : ℕ → Bool) → ((t : ℕ) → f t ≡ g t) → (l : List ℕ) → list_any f l ≡ any g l
+unfolding any
+any_by f g h [] = refl
+any_by f g h (t ∷ l) = go (f t) (g t) (h t) (any_by f g h l)
+  where
+    go : (a b : Bool) → a ≡ b → list_any f l ≡ any g l → (a || list_any f l) ≡ elim b [ true ↦ true | false ↦ any g l ]
+    go true true e r = refl
+    go false false e r = r
+    go true false e r = cc
+    go false true e r = cc
+
+-- whether the side has such a thread, by the library's question of the six
+pub able_by : (set : ℕ) (y : Side) (σ : State) (code lengths : List ℕ) (m : Machine) → Holds code lengths m σ
+    → list_any (asks_own lengths m set y) (range_with_len 0 6) ≡ able (game_of set) y σ
+unfolding able range
+able_by set y σ code lengths m held = any_by (asks_own lengths m set y) (mine (game_of set) y σ) (own_mine set y σ code lengths m held) SC.names
 
 -- a side wins where the other does not
 pub same_other : (a y : Side) → not (same a (other y)) ≡ same a y

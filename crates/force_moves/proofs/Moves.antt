@@ -1,14 +1,14 @@
 -- The two moves, whichever side's turn it is.
-use Prim.Native.Nat.{ℕ, zero, suc, ◌+◌, ◌-◌, ◌<◌, ◌≤◌}
+use Prim.Native.Nat.{ℕ, suc, ◌-◌, ◌<◌, ◌≤◌}
 use native.Mathlib.Omega.{arith}
-use mathlib.Core.Path.{◌≡◌, refl, sym, ap, subst, ◌∙◌}
+use mathlib.Core.Path.{◌≡◌, refl, sym, ap, ◌∙◌}
 use mathlib.Core.Logic.{◌≢◌}
 use mathlib.Core.Bool.{Bool, true, false, not, true≢false}
 use mathlib.Core.List.{List, [], ◌∷◌, ◌++◌}
 use lib.ListN.{get_or}
 use borrow.Author.Tests.{not-true, not-false}
 use Rattle.spec_file.specs.Program.{Program}
-use Rattle.spec_schedules.specs.Lists.{both, any}
+use Rattle.spec_schedules.specs.Lists.{any}
 use Rattle.spec_schedules.specs.Order.{Schedule}
 use Rattle.spec_schedules.proofs.Lists.{true_both, false_both, any_yes, any_of, of_range}
 use Rattle.spec_schedules.proofs.Runs.{run_snoc}
@@ -22,8 +22,8 @@ use Rattle.machine.proofs.HeldAsking.{fails_by_lem}
 use Rattle.spec_force.specs.Game.{Side, hostile, friendly, other, same, mine, able}
 use Rattle.spec_force.proofs.Value.{keeps_by, best, value}
 use Rattle.spec_force.specs.Forced.{game_of}
-use Rattle.spec_force.proofs.Sides.{same_is, same_self, mine_enabled}
-use Rattle.spec_force.proofs.Determined.{value_able, value_passes, value_none, best_some, best_no, keeps_mine, keeps_of, keeps_wins}
+use Rattle.spec_force.proofs.Sides.{same_self, mine_enabled}
+use Rattle.spec_force.proofs.Determined.{value_able, value_passes, value_none, best_some, best_no, keeps_mine}
 use Rattle.spec_force.proofs.Decided.{winner_passes}
 use Rattle.spec_force.proofs.Early.{fails_decides, silent_decides}
 use Rattle.force_moves.specs.Standing.{Standing}

@@ -1,15 +1,13 @@
 -- A play one step further.
-use Prim.Native.Nat.{ℕ, ◌<◌, ◌≤◌}
+use Prim.Native.Nat.{ℕ, ◌<◌}
 use native.Mathlib.Omega.{arith}
-use mathlib.Core.Path.{◌≡◌, refl, sym, ap, subst, ◌∙◌}
+use mathlib.Core.Path.{◌≡◌, sym, subst}
 use mathlib.Core.Bool.{true}
 use mathlib.Core.List.{List, [], ◌∷◌, ◌++◌}
-use lib.ListN.{length, get_or}
 use Rattle.spec_file.specs.Program.{Program}
 use Rattle.spec_schedules.specs.Order.{Schedule}
-use Rattle.spec_schedules.specs.System.{run, Allowed}
 use Rattle.spec_schedules.proofs.Runs.{run_nil, run_snoc, allowed_join}
-use Rattle.spec_sc.specs.State.{State, place, step, enabled, SC, start}
+use Rattle.spec_sc.specs.State.{State, place, enabled, SC, start}
 use Rattle.spec_sc.specs.Graph.{end_of}
 use Rattle.spec_sc.proofs.Steps.{enabled_range, run_threads}
 use Rattle.spec_sc.proofs.Start.{start_threads}

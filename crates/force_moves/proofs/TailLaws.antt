@@ -11,13 +11,12 @@ use lib.Seq.{drop-drop, get_or-set_same, get_or-set_other}
 use Rattle.spec_file.specs.Program.{Program}
 use Rattle.spec_file.specs.WellFormed.{Everywhere}
 use Rattle.spec_file.specs.declared.instruction.Instruction.{Instruction}
-use Rattle.spec_file.specs.declared.instruction.Instruction.TheVariants.{Memory, Alone}
 use Rattle.file_rows.specs.Rows.{instruction_at, thread_code}
 use Rattle.file_rows.proofs.Rows.{row_store, row_load, row_fetch_add, row_compare_swap, row_assign, row_add_assign, row_skip, row_skip_at_most}
 use Rattle.machine_access.proofs.HeldSettling.{code_at_lem, code_end}
 use Rattle.spec_schedules.specs.Order.{Schedule}
 use Rattle.spec_sc.specs.Local.{Outcome, continues, stops, outcome}
-use Rattle.spec_sc.specs.State.{State, no_thread, thread_of, failed_of, fails, start}
+use Rattle.spec_sc.specs.State.{no_thread, thread_of, failed_of, fails, start}
 use Rattle.spec_sc.specs.Graph.{end_of}
 use Rattle.spec_sc.proofs.Steps.{missing, run_threads}
 use Rattle.spec_sc.proofs.Start.{start_threads}
@@ -26,7 +25,7 @@ use Rattle.machine.specs.declared.state.Machine.{Machine}
 use Rattle.machine.specs.Held.{thread_at, Loaded}
 use Rattle.machine.proofs.HeldStart.{threads_held}
 use Rattle.spec_force.proofs.Silent.{Harmless, Silent}
-use Rattle.force_moves.specs.Standing.{Tails, Standing}
+use Rattle.force_moves.specs.Standing.{Standing}
 
 -- ---- one row
 continues_not : (rs : List ℕ) (k : ℕ) → continues rs k ≡ stops → ⊥
@@ -64,6 +63,25 @@ module _ (code : List ℕ) (row : ℕ) (h : row < 96) where
   unfolding outcome
   fine_skip_at_most e = subst Harmless (sym (row_skip_at_most code row h e)) (λ rs q. continues_not _ _ q)
 
+  -- an access
+  pub fine_access : 0x10 ≤ get_or code (row * 16) 0 → get_or code (row * 16) 0 ≤ 0x13 → Fine
+  fine_access a b = go (dec_lt (get_or code (row * 16) 0) 0x11) (dec_lt (get_or code (row * 16) 0) 0x12) (dec_lt (get_or code (row * 16) 0) 0x13)
+    where
+      go : Dec (get_or code (row * 16) 0 < 0x11) → Dec (get_or code (row * 16) 0 < 0x12) → Dec (get_or code (row * 16) 0 < 0x13) → Fine
+      go (yes p) q r = fine_store (omega (arith, a, p))
+      go (no p) (yes q) r = fine_load (omega (arith, p, q))
+      go (no p) (no q) (yes r) = fine_fetch_add (omega (arith, q, r))
+      go (no p) (no q) (no r) = fine_compare_swap (omega (arith, b, r))
+
+  -- an assignment, an addition to a register, a skip
+  pub fine_alone : 0x20 ≤ get_or code (row * 16) 0 → get_or code (row * 16) 0 ≤ 0x22 → Fine
+  fine_alone a b = go (dec_lt (get_or code (row * 16) 0) 0x21) (dec_lt (get_or code (row * 16) 0) 0x22)
+    where
+      go : Dec (get_or code (row * 16) 0 < 0x21) → Dec (get_or code (row * 16) 0 < 0x22) → Fine
+      go (yes p) q = fine_assign (omega (arith, a, p))
+      go (no p) (yes q) = fine_add_assign (omega (arith, p, q))
+      go (no p) (no q) = fine_skip (omega (arith, b, q))
+
 -- ---- one thread
 everywhere_drop : (P : Instruction → Type 0) (j : ℕ) (l : List Instruction) → Everywhere P l → Everywhere P (drop j l)
 everywhere_drop P zero l h = h
@@ -82,10 +100,10 @@ module _ (code : List ℕ) (t n : ℕ) where
       subst (Everywhere Harmless) (drop-drop (i - k) k (thread_code code t n) ∙ ap (λ (j : ℕ). drop j (thread_code code t n)) (let e : k + (i - k) ≡ i = omega arith in e))
       (everywhere_drop Harmless (i - k) (drop k (thread_code code t n)) h)
 
-  pub clear_more : (k : ℕ) → 0 < k → k ≤ n → Clear k → Harmless (instruction_at code (t * 16 + k - 1)) → Clear (k - 1)
+  pub clear_more : (k : ℕ) → 0 < k → k ≤ n → Clear k → Harmless (instruction_at code (t * 16 + (k - 1))) → Clear (k - 1)
   clear_more k h b c f =
       subst (Everywhere Harmless) (sym (code_at_lem code t n (k - 1) (omega arith))) (
-        subst (λ (j : ℕ). Harmless (instruction_at code j)) (let e : t * 16 + k - 1 ≡ t * 16 + (k - 1) = omega arith in e) f,
+        f,
         subst Clear (let e : k ≡ suc (k - 1) = omega arith in e) c,
       )
 

@@ -1,12 +1,12 @@
 -- How the arrays hold a play. For the code's own functions: nothing here is needed to read the promise.
-use Rattle.std.specs.Prelude.{ℕ, ◌<◌, ◌≤◌, ◌≡◌, Bool, true, false, List, length, get_or, drop}
+use Rattle.std.specs.Prelude.{ℕ, ◌<◌, ◌≤◌, ◌≡◌, Bool, true, false, List, get_or, drop, Option, Some, None}
 use Rattle.std.proofs.Math.Option.{some}
 use Rattle.spec_file.specs.Program.{Program}
 use Rattle.spec_file.specs.WellFormed.{Everywhere}
 use Rattle.spec_schedules.specs.Order.{Schedule}
 use Rattle.spec_schedules.specs.System.{Allowed}
 use Rattle.file_rows.specs.Rows.{thread_code}
-use Rattle.spec_sc.specs.State.{State, SC, start}
+use Rattle.spec_sc.specs.State.{SC, start}
 use Rattle.spec_sc.specs.Graph.{end_of}
 use Rattle.machine.specs.declared.state.Machine.{Machine}
 use Rattle.machine.specs.Held.{Holds, Loaded}
@@ -20,11 +20,13 @@ use Rattle.theory_game.specs.Winners.{Winners}
 use Rattle.table.specs.Places.{said}
 use Rattle.states_live.specs.Live.{Live}
 use Rattle.states_memory.specs.declared.tally.Shape.{Shape}
+use Rattle.force_moves.specs.declared.sides.Side as Code
+use Rattle.force_moves.specs.declared.sides.Side.TheVariants.{Hostile, Friendly}
 
--- a side as a flag
-unfoldable pub side_of : Bool → Side
-side_of true = hostile
-side_of false = friendly
+-- a side as the code has it
+unfoldable pub side_of : Code.Side → Side
+side_of Hostile = hostile
+side_of Friendly = friendly
 
 -- from these instructions on nothing that is left to a thread can fail
 abbrev pub Tails : List ℕ → List ℕ → ℕ → List ℕ → Type 0
@@ -54,8 +56,7 @@ pub record Playing (code lengths tails masks : List ℕ) (threads set : ℕ) (sh
 abbrev pub keeps_first : ℕ → Program → ℕ → Bool
 keeps_first set p t = keeps_by (game_of set) (λ τ. value (game_of set) 48 friendly τ) hostile (start p) t
 
--- r is the least such step, or 6
-pub record FirstKeeping (set : ℕ) (p : Program) (r : ℕ) : Type 0 where
-  pub most : r ≤ 6
-  pub found : r < 6 → keeps_first set p r ≡ true
-  pub below : (u : ℕ) → u < r → keeps_first set p u ≡ false
+-- it is the least such step, or there is none
+abbrev pub FirstKeeping : ℕ → Program → Option ℕ → Type 0
+FirstKeeping set p (Some t) = (t < 6) × (keeps_first set p t ≡ true) × ((u : ℕ) → u < t → keeps_first set p u ≡ false)
+FirstKeeping set p None = (u : ℕ) → u < 6 → keeps_first set p u ≡ false

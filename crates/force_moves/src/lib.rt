@@ -1,7 +1,9 @@
 // The moves of the two sides.
 #![tactic(auto)]
 
-// Whose a thread is, and whether a side has a step.
+// What a play goes by.
+mod game;
+// The sides, whose a thread is, and whether a side has a step.
 mod sides;
 // Where the assertions of each thread end.
 mod tails;
@@ -11,6 +13,7 @@ mod moving;
 mod first;
 
 pub use first::least_winning;
+pub use game::Game;
 pub use moving::friendly_move;
-pub use sides::has_step;
+pub use sides::{Side, has_step};
 pub use tails::{is_silent, tails_of};

@@ -7,6 +7,7 @@ ghost use Rattle.machine.specs.Held.{thread_at, Loaded};
 ghost use Rattle.spec_force.proofs.Silent.{Harmless};
 ghost use Rattle.force_moves.specs.Standing.{Tails};
 
+use file_decoder::Compiled;
 use file_rows::Code;
 use machine::Machine;
 
@@ -15,29 +16,12 @@ fn is_harmless(code: &Code, row: usize) -> bool
     requires { row < 96 }
     ensures { result ≡ true → Harmless (instruction_at code.now row) }
 {
-    let b = code[row * 16];
-    if b == 0x10 {
-        return true;
+    match code[row * 16] {
+        0x10..=0x13 => true,
+        0x20..=0x22 => true,
+        0x24 => true,
+        _ => false,
     }
-    if b == 0x11 {
-        return true;
-    }
-    if b == 0x12 {
-        return true;
-    }
-    if b == 0x13 {
-        return true;
-    }
-    if b == 0x20 {
-        return true;
-    }
-    if b == 0x21 {
-        return true;
-    }
-    if b == 0x22 {
-        return true;
-    }
-    b == 0x24
 }
 
 // The number of the instruction behind the last of thread t's n that could fail.
@@ -45,26 +29,22 @@ fn tail(code: &Code, t: usize, n: usize) -> usize
     requires { (t < 6) × (n ≤ 16) }
     ensures { (i : ℕ) → result ≤ i → Everywhere Harmless (drop i (thread_code code.now t n)) }
 {
-    let mut k = n;
-    while 0 < k {
-        if !is_harmless(code, t * 16 + k - 1) {
-            return k;
+    for k in (0..n).rev() {
+        if !is_harmless(code, t * 16 + k) {
+            return k + 1;
         }
-        k -= 1;
     }
     0
 }
 
 // For each thread the number of the instruction behind its last one that could fail; 0 for a thread that does not exist.
-pub fn tails_of(code: &Code, lengths: &[usize; 6], threads: usize) -> [usize; 6]
-    requires { (p : Program) × Loaded code.now lengths.now threads p }
-    ensures { Tails code.now lengths.now threads result }
+pub fn tails_of(program: &Compiled) -> [usize; 6]
+    requires { (p : Program) × Loaded program.now.code program.now.lengths program.now.threads p }
+    ensures { Tails program.now.code program.now.lengths program.now.threads result }
 {
     let mut all = [0usize; 6];
-    let mut t = 0;
-    while t < threads {
-        all[t] = tail(code, t, lengths[t]);
-        t += 1;
+    for t in 0..program.threads {
+        all[t] = tail(&program.code, t, program.lengths[t]);
     }
     all
 }
@@ -73,13 +53,5 @@ pub fn tails_of(code: &Code, lengths: &[usize; 6], threads: usize) -> [usize; 6]
 pub fn is_silent(tails: &[usize; 6], m: Machine) -> bool
     ensures { result ≡ true → (t : ℕ) → t < 6 → get_or tails.now t 0 ≤ (thread_at m t).at }
 {
-    let mut t = 0;
-    while t < 6 {
-        let thread = m.threads[t];
-        if thread.at < tails[t] {
-            return false;
-        }
-        t += 1;
-    }
-    true
+    (0..6).all(|t| tails[t] <= m.threads[t].at)
 }

@@ -4,4 +4,4 @@
 // The graph call.
 mod calling;
 
-pub use calling::{GraphAnswer, graph};
+pub use calling::graph;

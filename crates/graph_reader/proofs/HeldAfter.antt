@@ -1,5 +1,5 @@
 -- The table holds what has been read: before the first line, and with a line more that passes.
-use Prim.Native.Nat.{ℕ, ◌+◌, ◌*◌, ◌-◌, ◌<◌, ◌≤◌}
+use Prim.Native.Nat.{ℕ, ◌+◌, ◌*◌, ◌<◌, ◌≤◌}
 use mathlib.Core.Path.{◌≡◌, refl, sym, ap, subst, ◌∙◌}
 use mathlib.Core.Logic.{◌≢◌}
 use mathlib.Core.Bool.{Bool, true, false, cond}
@@ -7,8 +7,8 @@ use mathlib.Core.List.{List, [], ◌∷◌}
 use native.Mathlib.Omega.{arith}
 use native.Mathlib.Decide.{ℕ_discrete}
 use borrow.Author.Tests.{eq-eqb, ne_eqb, ltb-true, lt-ltb}
-use lib.Dec.{eqb, ltb}
-use lib.ListN.{length, get_or, set, replicate, length-set, length-replicate, get_or-replicate}
+use lib.Dec.{ltb}
+use lib.ListN.{length, get_or, set, length-set, length-replicate, get_or-replicate}
 use lib.Seq.{get_or-set_same, get_or-set_other}
 use Rattle.spec_file.proofs.DigitValues.{both}
 use Rattle.spec_schedules.specs.Lists.{any}
@@ -36,7 +36,7 @@ held_fresh n = record {
     orders = λ l k a b. rw (empty_row 8 l) (unset (96 + (l * 24 + k)) (omega arith));
     counts = λ l a. get_or-replicate 8 l 0 0 a ∙ sym (ap length (empty_row 8 l));
   };
-  seen = λ t i a b. ap (λ (x : ℕ). eqb x 0) (get_or-replicate 96 (t * 16 + i) 0 0 (omega arith));
+  seen = λ t i a b. get_or-replicate 96 (t * 16 + i) false false (omega arith);
   last = λ f k g. first f (is_read f) refl;
   later = λ l h. empty_row 8 l;
 }

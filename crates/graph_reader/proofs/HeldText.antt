@@ -13,7 +13,9 @@ use Rattle.file_lines.specs.declared.reader.Line.TheVariants.{Frame, Remark, Bro
 use Rattle.spec_file.proofs.Split.{before_end}
 use Rattle.file_lines.proofs.Meaning.{spelt_as_frame, spelt_as_remark, spelt_as_broken}
 use Rattle.graph_reader.specs.declared.table.Table.{Table}
-use Rattle.graph_reader.specs.declared.text.Verdict.TheVariants.{Passed, Refused}
+use Rattle.std.specs.Prelude.{Some, None, Ok, Err}
+use Rattle.file_lines.specs.Numbers.{unless_zero}
+use Rattle.file_lines.proofs.Numbers.{unless_none, unless_some}
 use Rattle.spec_judge.specs.Reading.{Reading, refusal, after, fresh, read_lines, read_graph}
 use Rattle.graph_reader.specs.Held.{Holds, empty_table, Passes, Taken, ReadAs}
 use Rattle.spec_judge.proofs.LineByLine.{text_over, line_unended, line_broken, line_remarked, line_refused, line_passes}
@@ -23,6 +25,7 @@ use Rattle.graph_reader.proofs.HeldAfter.{held_fresh}
 -- the lines before position `at` have been read, and none was refused
 pub record Progress (n : ℕ) (text : List ℕ) (s : Table) (at number : ℕ) : Type 0 where
   pub within : at ≤ length text
+  pub positive : 1 ≤ number
   pub counted : number ≤ at + 1
   pub read : Reading
   pub holds : Holds n s read
@@ -32,6 +35,7 @@ pub progress_start : (n : ℕ) (text : List ℕ) (s : Table) → s ≡ empty_tab
 unfolding read_graph
 progress_start n text s e = record {
   within = omega arith;
+  positive = omega arith;
   counted = omega arith;
   read = fresh n;
   holds = subst (λ (x : Table). Holds n x (fresh n)) (sym e) (held_fresh n);
@@ -40,12 +44,12 @@ progress_start n text s e = record {
 
 module _ (n : ℕ) (text : List ℕ) (s : Table) (at number : ℕ) (p : Progress n text s at number) where
   -- no line is left
-  pub read_done : length text ≤ at → ReadAs Passed s (read_graph n text)
+  pub read_done : length text ≤ at → ReadAs (Ok s) (read_graph n text)
   read_done h = (p.read.graph, p.rest ∙ text_over n number text at p.read h, p.holds.graph)
 
   module _ (end : ℕ) (h : at < length text) (e : end ≡ at + line_length (drop at text)) where
     -- the last line has no 0a
-    pub read_unended : end ≡ length text → ReadAs (Refused 30 number) s (read_graph n text)
+    pub read_unended : end ≡ length text → ReadAs (Err (record { number = 30; place = number })) (read_graph n text)
     read_unended l = p.rest ∙ line_unended n number text at p.read end e h (omega arith) (omega arith)
 
     module _ (ne : end ≡ length text → ⊥) where
@@ -56,13 +60,14 @@ module _ (n : ℕ) (text : List ℕ) (s : Table) (at number : ℕ) (p : Progress
       inside = before_end text at end h e ne
 
       -- the line is neither a frame nor a remark
-      pub read_broken : line_of line ≡ Broken → ReadAs (Refused 30 number) s (read_graph n text)
+      pub read_broken : line_of line ≡ Broken → ReadAs (Err (record { number = 30; place = number })) (read_graph n text)
       read_broken q = p.rest ∙ line_broken n number text at p.read end e inside (spelt_as_broken line q)
 
       -- the line is a remark: it is passed over, and counted
       pub read_remark : line_of line ≡ Remark → Progress n text s (end + 1) (number + 1)
       read_remark q = record {
         within = let i = inside in omega arith;
+        positive = omega arith;
         counted = let c = p.counted in omega arith;
         read = p.read;
         holds = p.holds;
@@ -76,21 +81,26 @@ module _ (n : ℕ) (text : List ℕ) (s : Table) (at number : ℕ) (p : Progress
         pub read_size : size ≡ length (pairs line)
         read_size = sym (spelt_as_frame line size z).1
 
-        module _ (k : ℕ) (r : k ≡ refusal n p.read (pairs line)) where
-          -- the line's frame is refused
-          pub read_refused : (k ≡ 0 → ⊥) → ReadAs (Refused k number) s (read_graph n text)
-          read_refused q = p.rest ∙ line_refused n number text at p.read end e inside (pairs line) its_frame k (sym r) q
+        -- the line's frame is refused
+        pub read_refused : (k : ℕ) → Some k ≡ unless_zero (refusal n p.read (pairs line)) → ReadAs (Err (record { number = k; place = number })) (read_graph n text)
+        read_refused k r =
+            let q = unless_some (refusal n p.read (pairs line)) k (sym r) in
+            p.rest ∙ line_refused n number text at p.read end e inside (pairs line) its_frame k q.0 (λ z. omega arith)
 
-          module _ (q : k ≡ 0) where
-            -- the line's frame passes
-            pub read_passes : n ≤ 6 → Passes n line size
-            read_passes few = let t = passed n p.read (pairs line) (sym r ∙ q) in record { few = few; size = read_size; known = t.0; in_range = t.1 }
+        module _ (r : None ≡ unless_zero (refusal n p.read (pairs line))) where
+          passing : refusal n p.read (pairs line) ≡ 0
+          passing = unless_none _ (sym r)
 
-            pub read_more : (s' : Table) → Taken n line s s' → Progress n text s' (end + 1) (number + 1)
-            read_more s' t = record {
-              within = let i = inside in omega arith;
-              counted = let c = p.counted in omega arith;
-              read = after (pairs line) p.read;
-              holds = t p.read p.holds (sym r ∙ q);
-              rest = p.rest ∙ line_passes n number text at p.read end e inside (pairs line) its_frame (sym r ∙ q);
-            }
+          -- the line's frame passes
+          pub read_passes : n ≤ 6 → Passes n line size
+          read_passes few = let t = passed n p.read (pairs line) passing in record { few = few; size = read_size; known = t.0; in_range = t.1 }
+
+          pub read_more : (s' : Table) → Taken n line s s' → Progress n text s' (end + 1) (number + 1)
+          read_more s' t = record {
+            within = let i = inside in omega arith;
+            positive = omega arith;
+            counted = let c = p.counted in omega arith;
+            read = after (pairs line) p.read;
+            holds = t p.read p.holds passing;
+            rest = p.rest ∙ line_passes n number text at p.read end e inside (pairs line) its_frame passing;
+          }

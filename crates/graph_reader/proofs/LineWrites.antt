@@ -1,7 +1,7 @@
 -- The writes of a `41` line, met one after the other.
 use Prim.Native.Nat.{ℕ, zero, suc, ◌+◌, ◌*◌, ◌-◌, ◌/◌, ◌%◌, ◌<◌, ◌≤◌}
 use mathlib.Core.Path.{◌≡◌, refl, sym, ap, ap₂, ◌∙◌}
-use mathlib.Core.Bool.{Bool, true, false, cond, ◌&&◌, ◌||◌}
+use mathlib.Core.Bool.{Bool, true, false, cond}
 use mathlib.Core.List.{List, [], ◌∷◌}
 use native.Mathlib.Numerals.{add-one, add-two}
 use native.Mathlib.Omega.{arith}
@@ -9,7 +9,6 @@ use borrow.Author.Tests.{ltb-true, ltb-false, lt-ltb, le-ltb}
 use lib.Dec.{ltb}
 use lib.ListN.{length, get_or, drop, drop_of_length-le, length-drop, get_or-eq_default}
 use lib.Seq.{drop-cons, get_or-drop}
-use Rattle.spec_schedules.specs.Lists.{any, all}
 use Rattle.spec_sc.specs.State.{Event}
 use Rattle.spec_sc.specs.Text.{events_in}
 use Rattle.spec_judge.specs.Reading.{Frame, byte_at, writes_in}
@@ -24,16 +23,18 @@ same_order a b c d f g = go (ltb a b) (ltb c d) refl refl
     go false true p q = lt-ltb a b (g (ltb-true c d q)) ∙ sym q
     go false false p q = p ∙ sym q
 
+-- byte 2 k and the one behind it are an event
 module _ (f : Frame) (k : ℕ) where
-  pub event_here : k + 1 < length f → events_in (drop k f) ≡ (byte_at f k, byte_at f (k + 1)) ∷ events_in (drop (k + 2) f)
+  pub event_here : 2 * k + 1 < length f → events_in (drop (2 * k) f) ≡ (byte_at f (2 * k), byte_at f (2 * k + 1)) ∷ events_in (drop (2 * (k + 1)) f)
   unfolding events_in
   event_here h =
-      ap events_in (drop-cons f k 0 (omega arith) ∙ ap (λ (r : List ℕ). get_or f k 0 ∷ r) (drop-cons f (suc k) 0 (omega arith)))
-      ∙ rw (add-one k, add-two k)
+      let e : 2 * (k + 1) ≡ 2 * k + 2 = omega arith in
+      ap events_in (drop-cons f (2 * k) 0 (omega arith) ∙ ap (λ (r : List ℕ). get_or f (2 * k) 0 ∷ r) (drop-cons f (suc (2 * k)) 0 (omega arith)))
+      ∙ rw (e, add-one (2 * k), add-two (2 * k))
 
-  pub no_event : length f ≤ k → events_in (drop k f) ≡ []
+  pub no_event : length f ≤ 2 * k → events_in (drop (2 * k) f) ≡ []
   unfolding events_in
-  no_event h = ap events_in (drop_of_length-le f {i = k} h)
+  no_event h = ap events_in (drop_of_length-le f {i = 2 * k} h)
 
 -- how many there are
 events_length : (l : List ℕ) → length (events_in l) ≡ length l / 2

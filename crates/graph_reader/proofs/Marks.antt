@@ -78,18 +78,18 @@ other_place t i e n = two (ℕ_discrete t e.0) (ℕ_discrete i e.1)
     two (yes p) (no q) = rw (eq-eqb t e.0 p, ne_eqb i e.1 q)
     two (no p) q = rw (ne_eqb t e.0 p)
 
-module _ (seen : List ℕ) (rows : List (List Event)) (size : length seen ≡ 96) (S : Seen seen rows) where
+module _ (seen : List Bool) (rows : List (List Event)) (size : length seen ≡ 96) (S : Seen seen rows) where
   -- one event more
-  pub seen_more : (e : Event) → Named 6 e → Seen (set seen (e.0 * 16 + e.1) 1) ((e ∷ []) ∷ rows)
+  pub seen_more : (e : Event) → Named 6 e → Seen (set seen (e.0 * 16 + e.1) true) ((e ∷ []) ∷ rows)
   seen_more e h t i a b = go (ℕ_discrete (t * 16 + i) (e.0 * 16 + e.1))
     where
-      go : Dec (t * 16 + i ≡ e.0 * 16 + e.1) → eqb (get_or (set seen (e.0 * 16 + e.1) 1) (t * 16 + i) 0) 0 ≡ not (written (t, i) ((e ∷ []) ∷ rows))
+      go : Dec (t * 16 + i ≡ e.0 * 16 + e.1) → get_or (set seen (e.0 * 16 + e.1) true) (t * 16 + i) false ≡ written (t, i) ((e ∷ []) ∷ rows)
       go (yes q) =
-          ap (λ (v : ℕ). eqb v 0) (ap (λ (k : ℕ). get_or (set seen (e.0 * 16 + e.1) 1) k 0) q ∙ get_or-set_same seen (e.0 * 16 + e.1) 1 0 (omega (arith, h.0, h.1)))
-          ∙ sym (ap not (one_written (t, i) e rows ∙ ap (λ (b : Bool). b || written (t, i) rows) (same_place t i e (omega (arith, h.1)) (omega (arith, h.1)))))
+          ap (λ (k : ℕ). get_or (set seen (e.0 * 16 + e.1) true) k false) q ∙ get_or-set_same seen (e.0 * 16 + e.1) true false (omega (arith, h.0, h.1))
+          ∙ sym (one_written (t, i) e rows ∙ ap (λ (b : Bool). b || written (t, i) rows) (same_place t i e (omega (arith, h.1)) (omega (arith, h.1))))
       go (no q) =
-          ap (λ (v : ℕ). eqb v 0) (get_or-set_other seen (e.0 * 16 + e.1) (t * 16 + i) 1 0 q) ∙ S t i a b
-          ∙ sym (ap not (one_written (t, i) e rows ∙ ap (λ (b : Bool). b || written (t, i) rows) (other_place t i e q)))
+          get_or-set_other seen (e.0 * 16 + e.1) (t * 16 + i) true false q ∙ S t i a b
+          ∙ sym (one_written (t, i) e rows ∙ ap (λ (b : Bool). b || written (t, i) rows) (other_place t i e q))
 
 -- all events of a line, as one list in front
 joined : (x e : Event) (es : List Event) (rows : List (List Event)) → written x (es ∷ (e ∷ []) ∷ rows) ≡ written x ((e ∷ es) ∷ rows)
@@ -104,14 +104,14 @@ joined x e es rows =
     or_exchanged false true c = refl
     or_exchanged false false c = refl
 
-pub seen_marked : (ws : List Event) (seen : List ℕ) (rows : List (List Event)) → length seen ≡ 96 → Seen seen rows → ((e : Event) → Memᴰ e ws → Named 6 e)
+pub seen_marked : (ws : List Event) (seen : List Bool) (rows : List (List Event)) → length seen ≡ 96 → Seen seen rows → ((e : Event) → Memᴰ e ws → Named 6 e)
     → Seen (marked_by seen ws) (ws ∷ rows)
 unfolding marked_by any
-seen_marked [] seen rows size S h t i a b = S t i a b ∙ ap not (sym (written_cons (t, i) [] rows))
+seen_marked [] seen rows size S h t i a b = S t i a b ∙ sym (written_cons (t, i) [] rows)
 seen_marked (e ∷ es) seen rows size S h t i a b =
-    seen_marked es (set seen (e.0 * 16 + e.1) 1) ((e ∷ []) ∷ rows) (length-set seen (e.0 * 16 + e.1) 1 ∙ size)
+    seen_marked es (set seen (e.0 * 16 + e.1) true) ((e ∷ []) ∷ rows) (length-set seen (e.0 * 16 + e.1) true ∙ size)
     (seen_more seen rows size S e (h e (Memᴰ.head refl))) (λ x m. h x (Memᴰ.tail m)) t i a b
-    ∙ ap not (joined (t, i) e es rows)
+    ∙ joined (t, i) e es rows
 
 -- where a location has no writes yet, its list may stand in front as well as in its place
 any_reverse : (x : Event) (ws : List Event) → any (same_event x) (reverse ws) ≡ any (same_event x) ws
@@ -144,6 +144,6 @@ written_set x ws (r ∷ rows) (suc l) h e =
     swapped false true c = refl
     swapped false false c = refl
 
-pub seen_line : (ws : List Event) (seen : List ℕ) (rows : List (List Event)) (l : ℕ) → length seen ≡ 96 → Seen seen rows → ((e : Event) → Memᴰ e ws → Named 6 e)
+pub seen_line : (ws : List Event) (seen : List Bool) (rows : List (List Event)) (l : ℕ) → length seen ≡ 96 → Seen seen rows → ((e : Event) → Memᴰ e ws → Named 6 e)
     → l < length rows → get_or rows l [] ≡ [] → Seen (marked_by seen ws) (set rows l (reverse ws))
-seen_line ws seen rows l size S h k e t i a b = seen_marked ws seen rows size S h t i a b ∙ ap not (written_set (t, i) ws rows l k e)
+seen_line ws seen rows l size S h k e t i a b = seen_marked ws seen rows size S h t i a b ∙ written_set (t, i) ws rows l k e

@@ -1,13 +1,12 @@
 -- How the arrays of the judge hold a graph and what has been read of its text. For the judge's own functions: nothing here is needed to
 -- read `read_graph`.
-use Rattle.std.specs.Prelude.{ℕ, ◌+◌, ◌*◌, ◌≤◌, ◌<◌, ◌≡◌, ◌⊎◌, true, cond, not, List, [], ◌∷◌, reverse, eqb, ltb, length, get_or, set, replicate}
+use Rattle.std.specs.Prelude.{ℕ, ◌+◌, ◌*◌, ◌≤◌, ◌<◌, ◌≡◌, ◌⊎◌, Bool, true, false, cond, List, [], ◌∷◌, reverse, eqb, ltb, length, get_or, set, replicate, Result, Ok, Err}
 use Rattle.spec_sc.specs.State.{Event}
 use Rattle.spec_sc.specs.Graph.{Graph}
 use Rattle.spec_file.specs.Frame.{pairs}
 use Rattle.spec_schedules.specs.Order.{less}
 use Rattle.graph_reader.specs.declared.table.Table.{Table}
-use Rattle.graph_reader.specs.declared.text.Verdict.{Verdict}
-use Rattle.graph_reader.specs.declared.text.Verdict.TheVariants.{Passed, Refused}
+use Rattle.spec_file.specs.declared.refusal.Refusal.{Refusal}
 use Rattle.spec_judge.specs.Consistent.{row_of, order_of}
 use Rattle.spec_judge.specs.Reading.{Frame, byte_at, is_read, known, in_range, key, Reading, written, refusal, after, Parsed, parsed}
 use Rattle.spec_judge.specs.Reading.{refused_at}
@@ -37,8 +36,8 @@ pub record Tabled (table sizes : List ℕ) (g : Graph) : Type 0 where
   pub counts : (l : ℕ) → l < 8 → get_or sizes l 0 ≡ length (order_of g l)
 
 -- the events that stand among these writes are marked
-abbrev pub Seen : List ℕ → List (List Event) → Type 0
-Seen seen rows = (t i : ℕ) → t < 6 → i < 16 → eqb (get_or seen (t * 16 + i) 0) 0 ≡ not (written (t, i) rows)
+abbrev pub Seen : List Bool → List (List Event) → Type 0
+Seen seen rows = (t i : ℕ) → t < 6 → i < 16 → get_or seen (t * 16 + i) false ≡ written (t, i) rows
 
 -- the place of a line in the order of all lines, from 1
 unfoldable pub rank_of : Frame → ℕ
@@ -57,12 +56,12 @@ pub record Holds (n : ℕ) (s : Table) (r : Reading) : Type 0 where
 
 -- the table before the first line
 abbrev pub empty_table : Table
-empty_table = record { pairs = replicate 576 254; counts = replicate 8 0; seen = replicate 96 0; last = 0 }
+empty_table = record { pairs = replicate 576 254; counts = replicate 8 0; seen = replicate 96 false; last = 0 }
 
 -- the events are marked, one after the other
-unfoldable pub marked_by : List ℕ → List Event → List ℕ
+unfoldable pub marked_by : List Bool → List Event → List Bool
 marked_by seen [] = seen
-marked_by seen (e ∷ es) = marked_by (set seen (e.0 * 16 + e.1) 1) es
+marked_by seen (e ∷ es) = marked_by (set seen (e.0 * 16 + e.1) true) es
 
 -- byte k of a frame, and 254 behind its end
 unfoldable pub byte_or : Frame → ℕ → ℕ
@@ -95,6 +94,6 @@ abbrev pub Taken : ℕ → List ℕ → Table → Table → Type 0
 Taken n line s s' = (r : Reading) → Holds n s r → refusal n r (pairs line) ≡ 0 → Holds n s' (after (pairs line) r)
 
 -- the answer's table holds the graph that was read, or the answer is the refusal
-abbrev pub ReadAs : Verdict → Table → Parsed → Type 0
-ReadAs Passed s p = (g : Graph) × (p ≡ parsed g) × Tabled s.pairs s.counts g
-ReadAs (Refused m k) s p = p ≡ refused_at m k
+abbrev pub ReadAs : Result Table Refusal → Parsed → Type 0
+ReadAs (Ok s) p = (g : Graph) × (p ≡ parsed g) × Tabled s.pairs s.counts g
+ReadAs (Err r) p = p ≡ refused_at r.number r.place

@@ -11,4 +11,4 @@ mod taken;
 mod text;
 
 pub use table::Table;
-pub use text::{Verdict, read_graph};
+pub use text::read_graph;

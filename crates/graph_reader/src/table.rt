@@ -10,8 +10,8 @@ pub struct Table {
     pub pairs: [u8; 576],
     // How many writes each location has.
     pub counts: [usize; 8],
-    // 1 at 16 t + i if a `41` line has named the event, 0 if not.
-    pub seen: [u8; 96],
+    // At 16 t + i whether a `41` line has named the event.
+    pub seen: [bool; 96],
     // The place of the last line in the order of all lines; 0 before the first.
     pub last: usize,
 }
@@ -23,7 +23,7 @@ pub(crate) fn empty() -> Table
     Table {
         pairs: [254u8; 576],
         counts: [0usize; 8],
-        seen: [0u8; 96],
+        seen: [false; 96],
         last: 0,
     }
 }

@@ -15,48 +15,40 @@ fn with_read(line: &[u8], s: Table) -> Table
     requires { (byte_at (pairs line.now) 1 < 6) × (byte_at (pairs line.now) 2 < 16) }
     ensures { result ≡ read_table (pairs line.now) s }
 {
-    let t = field(line, 1);
-    let i = field(line, 2);
-    let at = (t * 16 + i) * 2;
-    let counts = s.counts;
-    let seen = s.seen;
+    let at = (field(line, 1) * 16 + field(line, 2)) * 2;
     let mut pairs = s.pairs;
     pairs[at] = file_lines::byte_at(line, 3);
     pairs[at + 1] = file_lines::byte_at(line, 4);
     Table {
-        pairs: pairs,
-        counts: counts,
-        seen: seen,
+        pairs,
         last: rank(line),
+        ..s
     }
 }
 
 // The writes of a `41` line are marked.
-fn marked(line: &[u8], size: usize, seen: [u8; 96]) -> [u8; 96]
+fn marked(line: &[u8], size: usize, seen: [bool; 96]) -> [bool; 96]
     requires { (size ≡ length (pairs line.now)) × (size % 2 ≡ 0) × (all (is_event 6) (writes_in (pairs line.now)) ≡ true) }
     ensures { result ≡ marked_by seen (writes_in (pairs line.now)) }
 {
     let mut s = seen;
-    let mut k = 2;
-    while k < size {
-        let t = field(line, k);
-        let i = field(line, k + 1);
-        let e = t * 16 + i;
-        s[e] = 1;
-        k += 2;
+    for k in 1..size / 2 {
+        s[field(line, 2 * k) * 16 + field(line, 2 * k + 1)] = true;
     }
     s
 }
 
 // Byte k of the frame, and fe behind its end.
+#[tactic(auto, unfolding(crate::specs::Held::byte_or))]
 fn byte_or(line: &[u8], size: usize, k: usize) -> u8
     requires { size ≡ length (pairs line.now) }
     ensures { result ≡ byte_or (pairs line.now) k }
 {
     if k < size {
-        return file_lines::byte_at(line, k);
+        file_lines::byte_at(line, k)
+    } else {
+        254
     }
-    254
 }
 
 // The first 24 writes of a `41` line of location l get their places.
@@ -65,13 +57,11 @@ fn ordered(line: &[u8], size: usize, old: [u8; 576], l: usize) -> [u8; 576]
     ensures { Ordered old l (writes_in (pairs line.now)) 24 result }
 {
     let mut p = old;
-    let mut q = 0;
-    while q < STEPS {
+    for q in 0..STEPS {
         let at = (96 + (l * STEPS + q)) * 2;
         let k = 2 * q + 2;
         p[at] = byte_or(line, size, k);
         p[at + 1] = byte_or(line, size, k + 1);
-        q += 1;
     }
     p
 }
@@ -86,14 +76,14 @@ pub(crate) fn taken(line: &[u8], size: usize, n: usize, s: Table) -> Table
         return with_read(line, s);
     }
     let l = field(line, 1);
-    let old = s.pairs;
-    let seen = s.seen;
+    let pairs = ordered(line, size, s.pairs, l);
     let mut counts = s.counts;
     counts[l] = size / 2 - 1;
+    let seen = marked(line, size, s.seen);
     Table {
-        pairs: ordered(line, size, old, l),
-        counts: counts,
-        seen: marked(line, size, seen),
+        pairs,
+        counts,
+        seen,
         last: rank(line),
     }
 }

@@ -7,25 +7,12 @@ use crate::refusal::refusal;
 use crate::table::{Table, empty};
 use crate::taken::taken;
 use file_lines::Line;
+use spec_file::Refusal;
 
-#[derive(Clone, Copy)]
-pub enum Verdict {
-    Passed,
-    // The refusal's number and its line.
-    Refused(u8, usize),
-}
-
-// The verdict on a text, with the graph's table if it passed.
-#[derive(Clone, Copy)]
-pub struct Reply {
-    pub verdict: Verdict,
-    pub table: Table,
-}
-
-// Reads a graph text of n threads.
-pub fn read_graph(text: &[u8], n: usize) -> Reply
+// Reads a graph text of n threads: its table, or the refusal's number and its line.
+pub fn read_graph(text: &[u8], n: usize) -> Result<Table, Refusal>
     requires { n ≤ 6 }
-    ensures { ReadAs result.verdict result.table (read_graph n text.now) }
+    ensures { ReadAs result (read_graph n text.now) }
 {
     let mut s = empty();
     let mut at = 0;
@@ -33,38 +20,30 @@ pub fn read_graph(text: &[u8], n: usize) -> Reply
     while at < text.len() {
         let end = file_lines::line_end(text, at);
         if end == text.len() {
-            return Reply {
-                verdict: Verdict::Refused(30, number),
-                table: s,
-            };
+            return Err(Refusal {
+                number: 30,
+                place: number,
+            });
         }
-        let size = match file_lines::read(&text[at..end]) {
-            Line::Frame(n) => n,
-            Line::Remark => {
-                at = end + 1;
-                number += 1;
-                continue;
-            }
-            Line::Broken => {
-                return Reply {
-                    verdict: Verdict::Refused(30, number),
-                    table: s,
-                };
-            }
-        };
-        let k = refusal(&text[at..end], size, n, s);
-        if k != 0 {
-            return Reply {
-                verdict: Verdict::Refused(k, number),
-                table: s,
-            };
-        }
-        s = taken(&text[at..end], size, n, s);
+        let line = &text[at..end];
         at = end + 1;
+        match file_lines::read(line) {
+            Line::Broken => return Err(Refusal {
+                number: 30,
+                place: number,
+            }),
+            Line::Remark => {}
+            Line::Frame(size) => {
+                if let Some(k) = refusal(line, size, n, s) {
+                    return Err(Refusal {
+                        number: k,
+                        place: number,
+                    });
+                }
+                s = taken(line, size, n, s);
+            }
+        }
         number += 1;
     }
-    Reply {
-        verdict: Verdict::Passed,
-        table: s,
-    }
+    Ok(s)
 }

@@ -6,8 +6,10 @@ use mathlib.Core.Path.{◌≡◌, refl, sym, ap, subst, ◌∙◌}
 use mathlib.Core.Logic.{◌≢◌, ◌⊎◌, inl, inr, ⊎_elim}
 use mathlib.Core.Bool.{Bool, cond}
 use mathlib.Core.List.{List, [], ◌∷◌, ◌++◌}
-use lib.ListN.{length, get_or, set, length-append, length-set, get_or-append}
-use lib.Seq.{sets, length-sets, get_or-set_same, get_or-set_other}
+use lib.ListN.{length, get_or, set, take, drop, length-append, length-set, get_or-append}
+use Rattle.std.proofs.Common.{append_assoc, drop-drop}
+use borrow.Rule.Slice.PartMut.{put_mid}
+use lib.Seq.{sets, sets-eq, length-sets, get_or-set_same, get_or-set_other}
 use borrow.Author.Tests.{lt-ltb, le-ltb}
 use Rattle.file_rows.specs.Bytes.{Written}
 use Rattle.graph_writer.specs.Notes.{Note, no_note, note_bytes, Noted, put_note}
@@ -17,11 +19,6 @@ get_d_last [] n d = refl
 get_d_last (x ∷ ns) n d = get_d_last ns n d
 
 -- ---- bytes stored one after the other
--- one more
-pub sets_more : (vs l : List ℕ) (i a : ℕ) → set (sets l i vs) (i + length vs) a ≡ sets l i (vs ++ (a ∷ []))
-sets_more [] l i a = ap (λ (k : ℕ). set l k a) (let z : i + 0 ≡ i = omega arith in z)
-sets_more (v ∷ vs) l i a = ap (λ (k : ℕ). set (sets (set l i v) (suc i) vs) k a) (let z : i + suc (length vs) ≡ suc i + length vs = omega arith in z) ∙ sets_more vs (set l i v) (suc i) a
-
 sets_outside : (vs l : List ℕ) (i k : ℕ) → (k < i) ⊎ (i + length vs ≤ k) → get_or (sets l i vs) k 0 ≡ get_or l k 0
 sets_outside [] l i k h = refl
 sets_outside (v ∷ vs) l i k h =
@@ -53,6 +50,12 @@ put_room log k b h = ap (λ (c : Bool). cond c (sets log (k * 8) b) log) (lt-ltb
 pub put_over : (log : List ℕ) (k : ℕ) (b : List ℕ) → 24 ≤ k → put_note log k b ≡ log
 unfolding put_note
 put_over log k b h = ap (λ (c : Bool). cond c (sets log (k * 8) b) log) (le-ltb k 24 h)
+
+-- where its eight bytes are copied
+pub note_copied : (log b new : List ℕ) (k n : ℕ) → k < 24 → length log ≡ 192 → length b ≡ 8 → n ≡ 8 → new ≡ b → put_mid (k * 8) n log new ≡ put_note log k b
+note_copied log b new k n h e l z q =
+    let put = put_room log k b h ∙ sets-eq b log (k * 8) (omega arith) ∙ ap (λ (j : ℕ). take (k * 8) log ++ b ++ drop (k * 8 + j) log) l in
+    rw (q, z, drop-drop 8 (k * 8) log) (sym (simp append_assoc at put))
 
 -- eight bytes written behind the notes that are there
 noted_more : (old new : List ℕ) (k : ℕ) (b : List ℕ) → k < 24 → Written old (k * 8) b 8 new → (ns : List Note) (n : Note) → Noted old ns → k ≡ length ns → b ≡ note_bytes n → Noted new (ns ++ (n ∷ []))

@@ -14,10 +14,7 @@ fn write_read(out: &mut [u8], log: &[u8; 192], k: usize, t: u8) -> usize
     ensures { Wrote (thread_frames t (read_in t (note_at log.now k))) out.old out.new result }
 {
     let row = k * 8;
-    if log[row] != t {
-        return 0;
-    }
-    if log[row + 3] != 1 {
+    if log[row] != t || log[row + 3] != 1 {
         return 0;
     }
     let frame = [0x40, t, log[row + 1], log[row + 4], log[row + 5]];
@@ -30,10 +27,8 @@ fn write_thread(out: &mut [u8], log: &[u8; 192], steps: usize, t: u8) -> usize
     ensures { Wrote (thread_frames t (reads_in t (notes_at log.now steps))) out.old out.new result }
 {
     let mut at = 0;
-    let mut k = 0;
-    while k < steps {
+    for k in 0..steps {
         at += write_read(&mut out[at..], log, k, t);
-        k += 1;
     }
     at
 }
@@ -44,10 +39,8 @@ fn write_reads(out: &mut [u8], log: &[u8; 192], steps: usize) -> usize
     ensures { Wrote (read_frames_in 6 (notes_at log.now steps)) out.old out.new result }
 {
     let mut at = 0;
-    let mut t = 0u8;
-    while t < 6 {
+    for t in 0u8..6 {
         at += write_thread(&mut out[at..], log, steps, t);
-        t += 1;
     }
     at
 }
@@ -58,10 +51,7 @@ fn writes_to(log: &[u8; 192], k: usize, l: u8) -> bool
     ensures { result ≡ (eqb (note_at log.now k).location l && (note_at log.now k).wrote) }
 {
     let row = k * 8;
-    if log[row + 2] != l {
-        return false;
-    }
-    log[row + 6] == 1
+    log[row + 2] == l && log[row + 6] == 1
 }
 
 // The frame `41 l t i ..` of the writes of location l into the front of `frame`; answers its length, 2 where there is no write.
@@ -75,15 +65,13 @@ fn fill_order(frame: &mut [u8; 64], log: &[u8; 192], steps: usize, l: u8) -> usi
     frame[0] = 0x41;
     frame[1] = l;
     let mut n = 2;
-    let mut k = 0;
-    while k < steps {
+    for k in 0..steps {
         if writes_to(log, k, l) {
             let row = k * 8;
             frame[n] = log[row];
             frame[n + 1] = log[row + 1];
             n += 2;
         }
-        k += 1;
     }
     n
 }
@@ -107,10 +95,8 @@ fn write_orders(out: &mut [u8], log: &[u8; 192], steps: usize) -> usize
     ensures { Wrote (order_frames_in 8 (notes_at log.now steps)) out.old out.new result }
 {
     let mut at = 0;
-    let mut l = 0u8;
-    while l < 8 {
+    for l in 0u8..8 {
         at += write_order(&mut out[at..], log, steps, l);
-        l += 1;
     }
     at
 }

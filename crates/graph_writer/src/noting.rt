@@ -8,13 +8,8 @@ use spec_file::STEPS;
 pub fn put_note(log: &mut [u8; 192], k: usize, note: [u8; 8])
     ensures { log.new ≡ put_note log.old k note }
 {
-    if STEPS <= k {
-        return;
-    }
-    let at = k * 8;
-    let mut j = 0;
-    while j < 8 {
-        log[at + j] = note[j];
-        j += 1;
+    if k < STEPS {
+        let at = k * 8;
+        log[at..at + 8].copy_from_slice(&note);
     }
 }

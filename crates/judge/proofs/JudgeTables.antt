@@ -16,7 +16,7 @@ use Rattle.spec_schedules.specs.Order.{Schedule}
 use Rattle.spec_schedules.specs.System.{ended}
 use Rattle.spec_schedules.proofs.Runs.{allowed_full}
 use Rattle.spec_sc.specs.State.{Event, State, SC, start}
-use Rattle.spec_sc.specs.Graph.{Graph, graph_of, graph, end_of, Full}
+use Rattle.spec_sc.specs.Graph.{Graph, graph_of, end_of, Full}
 use Rattle.machine.specs.Held.{Loaded}
 use Rattle.machine.proofs.HeldStart.{threads_held}
 use Rattle.judge.specs.declared.walking.Walk.{Walk}
@@ -24,6 +24,7 @@ use Rattle.spec_judge.specs.Consistent.{row_of, order_of}
 use Rattle.spec_judge.proofs.Walk.{same_graph, walk, judge}
 use Rattle.spec_judge.specs.Reading.{parsed, read_graph}
 use Rattle.graph_reader.specs.Held.{no_line, line_in, Entry, Tabled}
+use Rattle.std.specs.Prelude.{Some}
 use Rattle.judge.specs.HeldYes.{Walked, JudgedAs}
 use Rattle.spec_judge.proofs.Tests.{same_graph_is, is_same_graph}
 use Rattle.spec_judge.proofs.Readable.{Readable}
@@ -90,21 +91,21 @@ module _ (code lengths : List ℕ) (n : ℕ) (pairs counts : List ℕ) (p : Prog
         go false q = rw (e, q)
 
     -- the tables differ
-    pub answer_pairs : length w.pairs ≡ 576 → length pairs ≡ 576 → (w.pairs ≡ pairs → ⊥) → judge p g ≡ none
-    answer_pairs a b ne = another (λ q. ne (one_table w.pairs pairs w.counts counts g (subst (Tabled w.pairs w.counts) (same_graph_is (graph_of σ) g q) W.made) T a b))
+    pub answer_pairs : length w.made.pairs ≡ 576 → length pairs ≡ 576 → (w.made.pairs ≡ pairs → ⊥) → judge p g ≡ none
+    answer_pairs a b ne = another (λ q. ne (one_table w.made.pairs pairs w.made.counts counts g (subst (Tabled w.made.pairs w.made.counts) (same_graph_is (graph_of σ) g q) W.made) T a b))
 
-    pub answer_counts : length w.counts ≡ 8 → length counts ≡ 8 → (w.counts ≡ counts → ⊥) → judge p g ≡ none
-    answer_counts a b ne = another (λ q. ne (one_count w.pairs pairs w.counts counts g (subst (Tabled w.pairs w.counts) (same_graph_is (graph_of σ) g q) W.made) T a b))
+    pub answer_counts : length w.made.counts ≡ 8 → length counts ≡ 8 → (w.made.counts ≡ counts → ⊥) → judge p g ≡ none
+    answer_counts a b ne = another (λ q. ne (one_count w.made.pairs pairs w.made.counts counts g (subst (Tabled w.made.pairs w.made.counts) (same_graph_is (graph_of σ) g q) W.made) T a b))
 
     -- the two tables do not differ
-    pub answer_yes : length w.schedule ≡ 24 → w.pairs ≡ pairs → w.counts ≡ counts → JudgedAs true w.schedule w.steps (judge p g)
+    pub answer_yes : length w.schedule ≡ 24 → w.made.pairs ≡ pairs → w.made.counts ≡ counts → JudgedAs (Some (record { schedule = w.schedule; steps = w.steps })) (judge p g)
     answer_yes a x y = ((judge_by p g true (rw (e, subst (λ (k : Graph). same_graph k g ≡ true) (sym same) (is_same_graph g)))).0 refl ∙ ap some (sym walked), W.most)
       where
         full : Full p (walk p g)
         full = allowed_full SC (start p) (walk p g) W.allowed e
 
         made : Tabled pairs counts (graph_of σ)
-        made = subst (λ (k : List ℕ). Tabled k counts (graph_of σ)) x (subst (λ (k : List ℕ). Tabled w.pairs k (graph_of σ)) y W.made)
+        made = subst (λ (k : List ℕ). Tabled k counts (graph_of σ)) x (subst (λ (k : List ℕ). Tabled w.made.pairs k (graph_of σ)) y W.made)
 
         readable : Readable n (graph_of σ)
         readable = subst (λ (k : ℕ). Readable k (graph_of σ)) (threads_held code lengths n p loaded) (own_readable p loaded.well_formed (walk p g) full)

@@ -3,5 +3,6 @@
 pub mod MadeTables
 pub mod WalkLoop
 -- the call: the tables compared, the answer way by way
+pub mod Tables
 pub mod JudgeTables
 pub mod CallAnswer

@@ -1,13 +1,11 @@
 -- The walk, step after step: what has been walked and what is left make the whole walk.
 use Prim.Native.Nat.{ℕ, zero, suc, ◌+◌, ◌*◌, ◌-◌, ◌<◌, ◌≤◌}
 use mathlib.Core.Path.{◌≡◌, refl, sym, ap, subst, ◌∙◌}
-use mathlib.Core.Logic.{◌≢◌}
 use mathlib.Core.Bool.{Bool, true, false, cond, true≢false}
 use mathlib.Core.Option.{Option, none, some}
 use mathlib.Core.List.{List, [], ◌∷◌, ◌++◌, append-nil, append_assoc, reverse}
 use native.Mathlib.Omega.{arith}
 use native.Mathlib.Decide.{ℕ_discrete}
-use borrow.Author.Tests.{lt-ltb, le-ltb}
 use lib.Dec.{eqb}
 use lib.ListN.{length, get_or, set, replicate, get_or-replicate, length-append}
 use lib.Seq.{get_or-set_same, get_or-set_other, get_or-append_seam}
@@ -21,9 +19,9 @@ use Rattle.spec_schedules.proofs.Lists.{range_ascends}
 use Rattle.spec_schedules.proofs.Greedy.{FindIs, found_at, nowhere, find_is}
 use Rattle.machine.specs.declared.state.Machine.{Machine}
 use Rattle.machine.specs.declared.stepping.Stepped.{Stepped}
-use Rattle.spec_sc.specs.State.{Event, State, step, enabled, SC, start}
+use Rattle.spec_sc.specs.State.{Event, State, place, step, enabled, SC, start}
 use Rattle.spec_sc.specs.Graph.{Graph, graph_of}
-use Rattle.machine.specs.Held.{Holds, HoldsStep}
+use Rattle.machine.specs.Held.{Holds, HoldsStep, Ready}
 use Rattle.spec_sc.proofs.Steps.{enabled_range, enabled_small}
 use Rattle.spec_sc.proofs.Start.{start_writes, start_history}
 use Rattle.spec_sc.proofs.Regular.{Regular}
@@ -32,7 +30,7 @@ use Rattle.spec_judge.specs.Consistent.{location_of}
 use Rattle.spec_judge.proofs.RoundValues.{final_values}
 use Rattle.spec_judge.proofs.Walk.{fits, walk}
 use Rattle.graph_reader.specs.Held.{no_line, line_in, Entry, Tabled}
-use Rattle.judge_next.specs.HeldWalk.{Ranged, Given, Walking, thread_or, next_of}
+use Rattle.judge_next.specs.HeldWalk.{Ranged, Given, Walking, next_of}
 use Rattle.judge.specs.MadeTable.{source_added, event_added, count_added}
 use Rattle.judge.specs.HeldYes.{Walked}
 use Rattle.graph_reader.proofs.Entries.{unset}
@@ -108,7 +106,7 @@ module _ (code lengths : List ℕ) (n : ℕ) (pairs table : List ℕ) (p : Progr
 
   -- the walk is over
   over : walk p g ≡ s → (few : (l : ℕ) → get_or counts l 0 ≤ 24)
-      → Walked code lengths p g (record { schedule = schedule; steps = k; machine = m; pairs = made; counts = counts })
+      → Walked code lengths p g (record { schedule = schedule; steps = k; machine = m; made = record { pairs = made; counts = counts } })
   over e few = record {
     steps = sym G.size ∙ ap length (sym e);
     most = G.most;
@@ -119,11 +117,12 @@ module _ (code lengths : List ℕ) (n : ℕ) (pairs table : List ℕ) (p : Progr
     few = few;
   }
 
-  pub walk_whole : 24 ≤ k → ((l : ℕ) → get_or counts l 0 ≤ 24) → Walked code lengths p g (record { schedule = schedule; steps = k; machine = m; pairs = made; counts = counts })
+  pub walk_whole : 24 ≤ k → ((l : ℕ) → get_or counts l 0 ≤ 24) → Walked code lengths p g (record { schedule = schedule; steps = k; machine = m; made = record { pairs = made; counts = counts } })
   unfolding greedy
   walk_whole h = over (G.rest ∙ ap (λ (j : ℕ). s ++ greedy SC (fits g (location_of p (final_values p g))) j (run SC (start p) s)) (let z : 24 - k ≡ 0 = omega arith in z) ∙ append-nil s)
 
-  module _ (t : ℕ) (choice : thread_or t ≡ next_of p g G.so_far) (left : k < 24) where
+  -- a step more, or none
+  module _ (left : k < 24) where
     abbrev afterwards : Option ℕ → Schedule
     afterwards none = []
     afterwards (some u) = u ∷ greedy SC (fits g (location_of p (final_values p g))) (24 - (k + 1)) (step (run SC (start p) s) u)
@@ -134,19 +133,20 @@ module _ (code lengths : List ℕ) (n : ℕ) (pairs table : List ℕ) (p : Progr
     go_on = ap (λ (j : ℕ). greedy SC (fits g (location_of p (final_values p g))) j (run SC (start p) s)) (let z : 24 - k ≡ suc (24 - (k + 1)) = omega arith in z)
 
     -- nobody fits
-    pub walk_stops : t ≡ 6 → ((l : ℕ) → get_or counts l 0 ≤ 24) → Walked code lengths p g (record { schedule = schedule; steps = k; machine = m; pairs = made; counts = counts })
-    walk_stops e = over (G.rest ∙ ap (λ (x : Schedule). s ++ x) (go_on ∙ nobody) ∙ append-nil s)
-      where
-        nobody : afterwards (next_of p g s) ≡ []
-        nobody = let z : next_of p g s ≡ none = sym choice ∙ rw (le-ltb t 6 (omega arith)) in ap afterwards z
+    pub walk_stops : none ≡ next_of p g G.so_far → ((l : ℕ) → get_or counts l 0 ≤ 24)
+        → Walked code lengths p g (record { schedule = schedule; steps = k; machine = m; made = record { pairs = made; counts = counts } })
+    walk_stops e = over (G.rest ∙ ap (λ (x : Schedule). s ++ x) (go_on ∙ ap afterwards (sym e)) ∙ append-nil s)
 
     -- t does
-    module _ (small : t ≤ 6) (other : t ≡ 6 → ⊥) where
-      chosen_is : next_of p g G.so_far ≡ some t
-      chosen_is = sym choice ∙ rw (lt-ltb t 6 (omega (arith, other)))
-
+    module _ (t : ℕ) (choice : some t ≡ next_of p g G.so_far) where
       pub walk_enabled : enabled (run SC (start p) G.so_far) t ≡ true
-      walk_enabled = fits_steps g (location_of p (final_values p g)) (run SC (start p) s) t (first_fits (fits g (location_of p (final_values p g)) (run SC (start p) s)) t chosen_is)
+      walk_enabled = fits_steps g (location_of p (final_values p g)) (run SC (start p) s) t (first_fits (fits g (location_of p (final_values p g)) (run SC (start p) s)) t (sym choice))
+
+      pub walk_steps : Ready lengths m t
+      walk_steps = walk_ready code lengths n pairs table p g m counts s walk_on t walk_enabled
+
+      pub walk_place : place (run SC (start p) G.so_far) t < 8
+      walk_place = walk_near code lengths n pairs table p g m counts s walk_on t walk_enabled
 
       module _ (r : Stepped) (S : HoldsStep code lengths (run SC (start p) G.so_far) t r) where
         pub walk_note : Ranged r.note
@@ -175,19 +175,19 @@ module _ (code lengths : List ℕ) (n : ℕ) (pairs table : List ℕ) (p : Progr
 
             somebody : afterwards (next_of p g s)
                 ≡ (t ∷ []) ++ greedy SC (fits g (location_of p (final_values p g))) (24 - (k + 1)) (step (run SC (start p) s) t)
-            somebody = ap afterwards chosen_is
+            somebody = ap afterwards (sym choice)
 
             regular : Regular (run SC (start p) s)
             regular = walk_regular code lengths n pairs table p g m counts s walk_on
 
             made_more : Tabled made' counts' (graph_of (step (run SC (start p) s) t))
             made_more =
-                let y = walk_ready code lengths n pairs table p g m counts s walk_on t walk_enabled in
+                let y = walk_steps in
                 let z = (G.holds.threads t (enabled_small (run SC (start p) s) t walk_enabled)).done in
                 subst (λ (x : List ℕ). Tabled x counts' (graph_of (step (run SC (start p) s) t))) (sym em)
                 (subst (λ (x : List ℕ). Tabled (event_added (source_added made r.note) counts r.note) x (graph_of (step (run SC (start p) s) t))) (sym ec)
                 (made_step made counts (run SC (start p) s) t G.tabled sm sc (enabled_range (run SC (start p) s) t walk_enabled) (enabled_small (run SC (start p) s) t walk_enabled) regular.eight
-                (walk_near code lengths n pairs table p g m counts s walk_on t walk_enabled) (omega (arith, y.left, y.sixteen, y.bounded)) room r.note S.noted))
+                walk_place (omega (arith, y.left, y.sixteen, y.bounded)) room r.note S.noted))
 
 -- numbers that the loop keeps
 pub few_more : (counts counts' b : List ℕ) (k : ℕ) → length counts ≡ 8 → Ranged b → counts' ≡ count_added counts b → ((l : ℕ) → get_or counts l 0 ≤ k) → (l : ℕ) → get_or counts' l 0 ≤ k + 1

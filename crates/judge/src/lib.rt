@@ -5,12 +5,10 @@
 mod making;
 // The walk.
 mod walking;
-// Tables compared.
-mod comparing;
 // The judge.
 mod judging;
 // The call.
 mod answering;
 
-pub use answering::{Outcome, judge, put};
-pub use judging::{Finding, judged};
+pub use answering::judge;
+pub use judging::judged;

@@ -14,41 +14,34 @@ pub struct Made {
 }
 
 // The table with the source of the step with this note, if it reads.
-pub(crate) fn with_source(pairs: [u8; 576], note: [u8; 8]) -> [u8; 576]
+pub(crate) fn with_source(made: Made, note: [u8; 8]) -> Made
     requires { Ranged note }
-    ensures { result ≡ source_added pairs note }
+    ensures { result ≡ record { pairs = source_added made.pairs note; counts = made.counts } }
 {
     if note[3] == 0 {
-        return pairs;
+        return made;
     }
     let at = (wide(note[0]) * 16 + wide(note[1])) * 2;
-    let mut p = pairs;
-    p[at] = note[4];
-    p[at + 1] = note[5];
-    p
+    let mut pairs = made.pairs;
+    pairs[at] = note[4];
+    pairs[at + 1] = note[5];
+    Made { pairs, ..made }
 }
 
 // The table with the event of the step with this note, if it writes.
-pub(crate) fn with_event(pairs: [u8; 576], counts: [usize; 8], note: [u8; 8]) -> Made
-    requires { Ranged note × ((l : ℕ) → get_or counts l 0 < 24) }
-    ensures { (result.pairs ≡ event_added pairs counts note) × (result.counts ≡ count_added counts note) }
+pub(crate) fn with_event(made: Made, note: [u8; 8]) -> Made
+    requires { Ranged note × ((l : ℕ) → get_or made.counts l 0 < 24) }
+    ensures { result ≡ record { pairs = event_added made.pairs made.counts note; counts = count_added made.counts note } }
 {
     if note[6] == 0 {
-        return Made {
-            pairs: pairs,
-            counts: counts,
-        };
+        return made;
     }
     let l = wide(note[2]);
-    let c = counts[l];
-    let at = (96 + (l * STEPS + c)) * 2;
-    let mut p = pairs;
-    let mut n = counts;
-    p[at] = note[0];
-    p[at + 1] = note[1];
-    n[l] = c + 1;
-    Made {
-        pairs: p,
-        counts: n,
-    }
+    let mut counts = made.counts;
+    let at = (96 + (l * STEPS + counts[l])) * 2;
+    let mut pairs = made.pairs;
+    pairs[at] = note[0];
+    pairs[at + 1] = note[1];
+    counts[l] += 1;
+    Made { pairs, counts }
 }

@@ -5,8 +5,8 @@ ghost use Rattle.spec_sc.specs.Graph.{Graph};
 ghost use Rattle.judge_next.specs.HeldWalk.{Given};
 ghost use Rattle.judge.specs.HeldYes.{Walked};
 
-use crate::making::{with_event, with_source};
-use file_rows::Code;
+use crate::making::{Made, with_event, with_source};
+use file_decoder::Compiled;
 use judge_next::chosen;
 use machine::{Machine, started, step};
 use spec_file::STEPS;
@@ -17,55 +17,40 @@ pub struct Walk {
     pub schedule: [u8; STEPS],
     pub steps: usize,
     pub machine: Machine,
-    pub pairs: [u8; 576],
-    pub counts: [usize; 8],
+    pub made: Made,
 }
 
 // Walks by the table of a graph and the places of its accesses.
-pub(crate) fn walked(
-    code: &Code,
-    lengths: &[usize; 6],
-    threads: usize,
-    starting: [u32; 8],
-    pairs: [u8; 576],
-    places: [u8; 96],
-) -> Walk
-    requires { (p : Program) × (g : Graph) × Given code.now lengths.now threads pairs places p g
-        × (starting ≡ initial p) }
-    ensures { (p : Program) (g : Graph) → Given code.now lengths.now threads pairs places p g
-        → starting ≡ initial p → Walked code.now lengths.now p g result }
+pub(crate) fn walked(program: &Compiled, pairs: [u8; 576], places: [u8; 96]) -> Walk
+    requires { (p : Program) × (g : Graph) × Given program.now.code program.now.lengths program.now.threads pairs places p g
+        × (program.now.starting ≡ initial p) }
+    ensures { (p : Program) (g : Graph) → Given program.now.code program.now.lengths program.now.threads pairs places p g
+        → program.now.starting ≡ initial p → Walked program.now.code program.now.lengths p g result }
 {
     let mut schedule = [0u8; STEPS];
-    let mut made = [254u8; 576];
-    let mut counts = [0usize; 8];
-    let mut m = started(code, lengths, threads, starting);
-    let mut k = 0;
-    while k < STEPS {
-        let t = chosen(code, lengths, threads, pairs, places, m, counts);
-        if t == 6 {
+    let mut machine = started(program);
+    let mut made = Made {
+        pairs: [254u8; 576],
+        counts: [0usize; 8],
+    };
+    for k in 0..STEPS {
+        let Some(t) = chosen(program, pairs, places, machine, made.counts) else {
             return Walk {
-                schedule: schedule,
+                schedule,
                 steps: k,
-                machine: m,
-                pairs: made,
-                counts: counts,
+                machine,
+                made,
             };
-        }
-        let s = step(code, lengths, m, t);
-        let note = s.note;
-        let sources = with_source(made, note);
-        let r = with_event(sources, counts, note);
-        made = r.pairs;
-        counts = r.counts;
+        };
+        let s = step(program, machine, t);
+        made = with_event(with_source(made, s.note), s.note);
         schedule[k] = t;
-        m = s.machine;
-        k += 1;
+        machine = s.machine;
     }
     Walk {
-        schedule: schedule,
-        steps: k,
-        machine: m,
-        pairs: made,
-        counts: counts,
+        schedule,
+        steps: STEPS,
+        machine,
+        made,
     }
 }

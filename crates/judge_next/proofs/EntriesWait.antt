@@ -1,11 +1,9 @@
 -- No read waits exactly if none of the table's entries does.
 use Prim.Native.Nat.{ℕ, ◌+◌, ◌*◌, ◌/◌, ◌%◌, ◌<◌}
 use mathlib.Core.Path.{◌≡◌, refl, sym, ap, ◌∙◌}
-use mathlib.Core.Logic.{◌≢◌}
 use mathlib.Core.Bool.{Bool, true, false, not, ◌&&◌, true≢false}
 use mathlib.Core.List.{List}
 use native.Mathlib.Omega.{arith}
-use native.Mathlib.Decide.{ℕ_discrete}
 use borrow.Author.Tests.{eqb-true, not-true}
 use lib.Dec.{eqb, ltb}
 use lib.ListN.{length, get_or}
@@ -78,12 +76,3 @@ module _ (pairs places : List ℕ) (n : ℕ) (m : Machine) (g : Graph) (place : 
       let z = D.rows in
       let e : line_in (row_of g v) r.0 ≡ r.1 = line_of (row_of g v) (D.ordered v) r.0 r.1 b in
       true≢false (sym w ∙ sym (entry_waits v r.0 (omega (arith, c.1)) s ∙ ap (λ (x : Event). waits place σ l (u, j) (t, d) v (r.0, x)) e) ∙ none (v * 16 + r.0) (omega (arith, c.1))))))
-
--- one entry more that does not wait
-pub one_more_none : (pairs places : List ℕ) (m : Machine) (l u j t d k : ℕ) → ((i : ℕ) → i < k → waits_at pairs places m i l u j t d ≡ false) → waits_at pairs places m k l u j t d ≡ false
-    → (i : ℕ) → i < k + 1 → waits_at pairs places m i l u j t d ≡ false
-one_more_none pairs places m l u j t d k before e i h = go (ℕ_discrete i k)
-  where
-    go : Dec (i ≡ k) → waits_at pairs places m i l u j t d ≡ false
-    go (yes q) = ap (λ (z : ℕ). waits_at pairs places m z l u j t d) q ∙ e
-    go (no q) = before i (omega (arith, q))

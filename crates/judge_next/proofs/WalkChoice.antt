@@ -7,7 +7,6 @@ use mathlib.Core.Option.{none, some}
 use mathlib.Core.List.{List, [], ◌∷◌, Memᴰ}
 use native.Mathlib.Omega.{arith}
 use native.Mathlib.Decide.{ℕ_discrete}
-use borrow.Author.Tests.{lt-ltb}
 use lib.ListN.{length, get_or}
 use Rattle.spec_file.specs.Program.{Program}
 use Rattle.spec_schedules.specs.Lists.{find, range}
@@ -27,7 +26,7 @@ use Rattle.machine.proofs.HeldStart.{threads_held, short_held}
 use Rattle.spec_judge.specs.Consistent.{location_of}
 use Rattle.spec_judge.proofs.RoundValues.{final_values}
 use Rattle.spec_judge.proofs.Walk.{fits}
-use Rattle.judge_next.specs.HeldWalk.{Drawn, Ordering, Ranged, NoteOf, Walking, thread_or, next_of}
+use Rattle.judge_next.specs.HeldWalk.{Drawn, Ordering, Ranged, NoteOf, Walking, next_of}
 use Rattle.spec_judge.proofs.Readable.{Readable}
 use Rattle.spec_judge.proofs.Parsed.{read_readable}
 use Rattle.judge_values.proofs.HeldRoundLoop.{six_held, near_held}
@@ -116,19 +115,11 @@ module _ (code lengths : List ℕ) (n : ℕ) (pairs table : List ℕ) (p : Progr
             omega (arith, o, ap (λ (u : ℕ). (thread_of σ u).history.done) k ∙ idle_done)
 
   -- the answer
-  pub chosen_one : (t : ℕ) → t < 6 → ((u : ℕ) → u < t → fits g (location_of p (final_values p g)) σ u ≡ false) → fits g (location_of p (final_values p g)) σ t ≡ true → thread_or t ≡ next_of p g s
-  chosen_one t h before e = rw (lt-ltb t 6 h) (sym (first_at (fits g (location_of p (final_values p g)) σ) 6 0 t (λ u a b. before u b) (omega arith) h e))
+  pub chosen_one : (t : ℕ) → t < 6 → ((u : ℕ) → u < t → fits g (location_of p (final_values p g)) σ u ≡ false) → fits g (location_of p (final_values p g)) σ t ≡ true → some t ≡ next_of p g s
+  chosen_one t h before e = sym (first_at (fits g (location_of p (final_values p g)) σ) 6 0 t (λ u a b. before u b) (omega arith) h e)
 
-  pub chosen_none : (t : ℕ) → 6 ≤ t → ((u : ℕ) → u < t → fits g (location_of p (final_values p g)) σ u ≡ false) → thread_or 6 ≡ next_of p g s
+  pub chosen_none : (t : ℕ) → 6 ≤ t → ((u : ℕ) → u < t → fits g (location_of p (final_values p g)) σ u ≡ false) → none ≡ next_of p g s
   chosen_none t h before = sym (first_none (fits g (location_of p (final_values p g)) σ) 6 0 (λ u a b. before u (omega arith)))
-
-  pub passed_over : (t : ℕ) → ((u : ℕ) → u < t → fits g (location_of p (final_values p g)) σ u ≡ false) → fits g (location_of p (final_values p g)) σ t ≡ false
-      → (u : ℕ) → u < t + 1 → fits g (location_of p (final_values p g)) σ u ≡ false
-  passed_over t before e u h = go (ℕ_discrete u t)
-    where
-      go : Dec (u ≡ t) → fits g (location_of p (final_values p g)) σ u ≡ false
-      go (yes q) = ap (fits g (location_of p (final_values p g)) σ) q ∙ e
-      go (no q) = before u (omega (arith, q))
 
   pub ended_over : (t : ℕ) → enabled σ t ≡ false → fits g (location_of p (final_values p g)) σ t ≡ false
   ended_over t e = fits_enabled g (location_of p (final_values p g)) σ t e

@@ -1,5 +1,6 @@
 -- What the walk goes by: the graph's table, the places of the accesses, and the machine. For the functions of the judge's walk.
 use Rattle.std.specs.Prelude.{ℕ, ◌+◌, ◌*◌, ◌/◌, ◌%◌, ◌<◌, ◌≡◌, Bool, true, cond, not, ◌&&◌, eqb, ltb, length, get_or}
+use Rattle.std.specs.Prelude as std
 use Rattle.std.proofs.Math.Option.{Option, none, some}
 use mathlib.Core.List.{List, reverse, Memᴰ}
 use Rattle.spec_file.specs.Program.{Program}
@@ -77,9 +78,10 @@ pub record Walking (code lengths : List ℕ) (n : ℕ) (pairs table : List ℕ) 
   pub holds : Holds code lengths m (run SC (start p) s)
   pub made : (l : ℕ) → l < 8 → get_or counts l 0 ≡ length (cell_of (run SC (start p) s) l).writes
 
--- a thread, or none for 6
-abbrev pub thread_or : ℕ → Option ℕ
-thread_or t = cond (ltb t 6) (some t) none
+-- the thread that was chosen, if one was
+abbrev pub chosen_of : std.Option ℕ → Option ℕ
+chosen_of (std.Some t) = some t
+chosen_of std.None = none
 
 -- the least thread whose next access the graph allows
 abbrev pub next_of : Program → Graph → Schedule → Option ℕ

@@ -20,13 +20,7 @@ fn read_allowed(pairs: [u8; 576], places: [u8; 96], note: [u8; 8]) -> bool
         return true;
     }
     let k = wide(note[0]) * 16 + wide(note[1]);
-    if pairs[k * 2] != note[4] {
-        return false;
-    }
-    if pairs[k * 2 + 1] != note[5] {
-        return false;
-    }
-    places[k] == note[2]
+    pairs[k * 2] == note[4] && pairs[k * 2 + 1] == note[5] && places[k] == note[2]
 }
 
 // A write: it is its turn, when so many writes have been made at each location.
@@ -36,10 +30,7 @@ fn write_allowed(pairs: [u8; 576], made: [usize; 8], note: [u8; 8]) -> bool
 {
     let l = wide(note[2]);
     let k = 96 + (l * STEPS + made[l]);
-    if pairs[k * 2] != note[0] {
-        return false;
-    }
-    pairs[k * 2 + 1] == note[1]
+    pairs[k * 2] == note[0] && pairs[k * 2 + 1] == note[1]
 }
 
 // Whether the graph allows the step with this note on this machine.
@@ -55,16 +46,10 @@ pub(crate) fn allowed(
     ensures { (g : Graph) (place : Values) (σ : State) (t : ℕ) → Drawn pairs places threads m g place σ → Ordering pairs made g σ
         → enabled σ t ≡ true → t < threads → NoteOf note σ t → (get_or note 4 0 ≡ 254 → ⊥) → result ≡ fits g place σ t }
 {
-    if !read_allowed(pairs, places, note) {
-        return false;
-    }
-    if note[6] == 0 {
-        return true;
-    }
-    if !write_allowed(pairs, made, note) {
-        return false;
-    }
-    none_waits(
-        pairs, places, threads, m, note[2], note[4], note[5], note[0], note[1],
-    )
+    read_allowed(pairs, places, note)
+        && (note[6] == 0
+            || write_allowed(pairs, made, note)
+                && none_waits(
+                    pairs, places, threads, m, note[2], note[4], note[5], note[0], note[1],
+                ))
 }

@@ -1,5 +1,5 @@
 // The least thread whose next access the graph allows.
-ghost use Rattle.std.specs.Prelude.{◌≡◌, ℕ, ◌<◌, ◌≤◌, get_or};
+ghost use Rattle.std.specs.Prelude.{◌≡◌, ℕ, ◌<◌, get_or, MatchOption};
 ghost use Rattle.spec_file.specs.Program.{Program};
 ghost use Rattle.spec_schedules.specs.Order.{Schedule};
 ghost use Rattle.spec_schedules.specs.System.{run};
@@ -8,17 +8,15 @@ ghost use Rattle.spec_sc.specs.Graph.{Graph};
 ghost use Rattle.spec_judge.specs.Consistent.{location_of};
 ghost use Rattle.spec_judge.proofs.RoundValues.{final_values};
 ghost use Rattle.spec_judge.proofs.Walk.{fits};
-ghost use Rattle.judge_next.specs.HeldWalk.{Walking, thread_or, next_of};
+ghost use Rattle.judge_next.specs.HeldWalk.{Walking, chosen_of, next_of};
 
 use crate::allowing::allowed;
-use file_rows::Code;
+use file_decoder::Compiled;
 use machine::{Machine, enabled, step};
 
 // Whether thread t may step and the graph allows its next access.
 fn is_allowed(
-    code: &Code,
-    lengths: &[usize; 6],
-    threads: usize,
+    program: &Compiled,
     pairs: [u8; 576],
     places: [u8; 96],
     m: Machine,
@@ -26,40 +24,40 @@ fn is_allowed(
     t: u8,
 ) -> bool
     requires { ((l : ℕ) → get_or counts l 0 < 24) × ((p : Program) × (g : Graph) × (s : Schedule)
-        × Walking code.now lengths.now threads pairs places p g m counts s) }
+        × Walking program.now.code program.now.lengths program.now.threads pairs places p g m counts s) }
     ensures { (p : Program) (g : Graph) (s : Schedule)
-        → Walking code.now lengths.now threads pairs places p g m counts s
+        → Walking program.now.code program.now.lengths program.now.threads pairs places p g m counts s
         → result ≡ fits g (location_of p (final_values p g)) (run SC (start p) s) t }
 {
-    if !enabled(lengths, m, t) {
-        return false;
-    }
-    let s = step(code, lengths, m, t);
-    let note = s.note;
-    allowed(pairs, places, threads, m, counts, note)
+    enabled(&program.lengths, m, t)
+        && allowed(
+            pairs,
+            places,
+            program.threads,
+            m,
+            counts,
+            step(program, m, t).note,
+        )
 }
 
-// The least thread whose next access the graph allows, or 6 if there is none.
+// The least thread whose next access the graph allows, if there is one.
 pub fn chosen(
-    code: &Code,
-    lengths: &[usize; 6],
-    threads: usize,
+    program: &Compiled,
     pairs: [u8; 576],
     places: [u8; 96],
     m: Machine,
     counts: [usize; 8],
-) -> u8
+) -> Option<u8>
     requires { ((l : ℕ) → get_or counts l 0 < 24) × ((p : Program) × (g : Graph) × (s : Schedule)
-        × Walking code.now lengths.now threads pairs places p g m counts s) }
-    ensures { (result ≤ 6) × ((p : Program) (g : Graph) (s : Schedule)
-        → Walking code.now lengths.now threads pairs places p g m counts s → thread_or result ≡ next_of p g s) }
+        × Walking program.now.code program.now.lengths program.now.threads pairs places p g m counts s) }
+    ensures within { MatchOption result Unit (λ t. t < 6) }
+    ensures next { (p : Program) (g : Graph) (s : Schedule)
+        → Walking program.now.code program.now.lengths program.now.threads pairs places p g m counts s → chosen_of result ≡ next_of p g s }
 {
-    let mut t = 0u8;
-    while t < 6 {
-        if is_allowed(code, lengths, threads, pairs, places, m, counts, t) {
-            return t;
+    for t in 0u8..6 {
+        if is_allowed(program, pairs, places, m, counts, t) {
+            return Some(t);
         }
-        t += 1;
     }
-    6
+    None
 }

@@ -24,23 +24,11 @@ fn waits(
     requires { k < 96 }
     ensures { result ≡ waits_at pairs places m k l u j t d }
 {
-    if pairs[k * 2] != u {
-        return false;
-    }
-    if pairs[k * 2 + 1] != j {
-        return false;
-    }
-    if places[k] != l {
-        return false;
-    }
-    let thread = m.threads[k / 16];
-    if k % 16 < wide(thread.done) {
-        return false;
-    }
-    if k / 16 != wide(t) {
-        return true;
-    }
-    k % 16 != wide(d)
+    pairs[k * 2] == u
+        && pairs[k * 2 + 1] == j
+        && places[k] == l
+        && wide(m.threads[k / 16].done) <= k % 16
+        && (k / 16 != wide(t) || k % 16 != wide(d))
 }
 
 // Whether no read but access d of thread t still waits for the write (u, j) at location l.
@@ -59,12 +47,10 @@ pub(crate) fn none_waits(
     ensures { (g : Graph) (place : Values) (σ : State) → Drawn pairs places threads m g place σ → (u ≡ 254 → ⊥)
         → result ≡ none_waits g place σ l (u, j) (t, d) }
 {
-    let mut k = 0;
-    while k < 16 * threads {
+    for k in 0..16 * threads {
         if waits(pairs, places, m, k, l, u, j, t, d) {
             return false;
         }
-        k += 1;
     }
     true
 }

@@ -1,7 +1,7 @@
 -- A thread by itself on the machine: its next access on finding x.
 use Prim.Native.Nat.{ℕ, ◌%◌, ◌<◌, ◌≤◌}
-use mathlib.Core.Path.{◌≡◌, refl, sym, ap, ap₂, subst, ◌∙◌}
-use mathlib.Core.Bool.{true, false, true≢false}
+use mathlib.Core.Path.{◌≡◌, refl, sym, ap, ap₂, ◌∙◌}
+use mathlib.Core.Bool.{Bool, true, false, true≢false, cond}
 use mathlib.Core.Option.{Option, none, some}
 use mathlib.Core.List.{List, []}
 use native.Mathlib.Omega.{arith}
@@ -128,7 +128,7 @@ module _ (code lengths : List ℕ) (m : Machine) (σ : State) (x : ℕ) (H : Hol
         }
 
         -- the access writes nothing
-        pub met_still : s.wrote ≡ false → MetAlone code lengths σ t x (record { thread = s.thread; place = s.location; left = 0 })
+        met_still : s.wrote ≡ false → MetAlone code lengths σ t x (record { thread = s.thread; place = s.location; left = 0 })
         unfolding given or_zero
         met_still e = made 0 (go (puts own x) (sym (moved.wrote ∙ writes_is) ∙ e))
           where
@@ -137,7 +137,7 @@ module _ (code lengths : List ℕ) (m : Machine) (σ : State) (x : ℕ) (H : Hol
             go (some v) q = absurd (true≢false q)
 
         -- the access writes
-        pub met_writes : (l : ℕ) → l ≡ s.location % 8 → s.wrote ≡ true
+        met_writes : (l : ℕ) → l ≡ s.location % 8 → s.wrote ≡ true
             → MetAlone code lengths σ t x (record { thread = s.thread; place = s.location; left = get_or s.memory l 0 })
         unfolding given or_zero met
         met_writes l e w = made (get_or s.memory l 0) (
@@ -152,3 +152,12 @@ module _ (code lengths : List ℕ) (m : Machine) (σ : State) (x : ℕ) (H : Hol
             go none q z = absurd (true≢false (sym z))
             go (some v) q z = (written_some (t, (thread_of τ t).history.done) (puts (thread_of τ t).local (cell_of τ (place τ t)).value) (cell_of τ (place τ t)) v
                 (ap₂ (λ (k : Thread) (y : ℕ). puts k.local y) (faced_thread t) found ∙ q)).1
+
+        -- the access, whether it writes or not
+        pub met_moves : (l left : ℕ) → l ≡ s.location % 8 → left ≡ cond s.wrote (get_or s.memory l 0) 0
+            → MetAlone code lengths σ t x (record { thread = s.thread; place = s.location; left = left })
+        met_moves l left e q = go s.wrote refl
+          where
+            go : (b : Bool) → s.wrote ≡ b → MetAlone code lengths σ t x (record { thread = s.thread; place = s.location; left = left })
+            go true w = rw (q, w) (met_writes l e w)
+            go false w = rw (q, w) (met_still w)

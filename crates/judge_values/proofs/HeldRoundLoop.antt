@@ -1,13 +1,13 @@
 -- A round on the machine, access after access: each thread starts anew, and each access finds what the table says.
-use Prim.Native.Nat.{ℕ, zero, suc, ◌+◌, ◌*◌, ◌-◌, ◌/◌, ◌%◌, ◌<◌, ◌≤◌}
+use Prim.Native.Nat.{ℕ, zero, suc, ◌+◌, ◌-◌, ◌/◌, ◌%◌, ◌<◌, ◌≤◌}
 use mathlib.Core.Path.{◌≡◌, refl, sym, ap, ap₂, subst, ◌∙◌}
 use mathlib.Core.Logic.{◌≢◌}
-use mathlib.Core.Bool.{Bool, true, false, cond}
+use mathlib.Core.Bool.{cond}
 use mathlib.Core.List.{List, [], ◌∷◌}
 use native.Mathlib.Omega.{arith}
 use native.Mathlib.Decide.{dec_lt, ℕ_discrete}
-use borrow.Author.Tests.{eq-eqb, ne_eqb, lt-ltb, le-ltb}
-use lib.Dec.{eqb, ltb}
+use borrow.Author.Tests.{eq-eqb, ne_eqb}
+use lib.Dec.{eqb}
 use lib.ListN.{length, get_or, set, drop, replicate}
 use lib.Seq.{get_or-set_same, get_or-set_other}
 use Rattle.spec_file.specs.Program.{Program, code_of}
@@ -25,7 +25,7 @@ use Rattle.machine.proofs.HeldStart.{threads_held, code_held}
 use Rattle.judge_values.specs.declared.by_itself.Lone.{Lone}
 use Rattle.spec_judge.specs.Consistent.{Values, alone, location_of, out_of}
 use Rattle.spec_judge.proofs.RoundValues.{or_zero}
-use Rattle.judge_values.specs.HeldRounds.{Opened, MetAlone, values_in, RoundHeld}
+use Rattle.judge_values.specs.HeldRounds.{Opened, MetAlone, values_in}
 
 pub zeros : (n k : ℕ) → ◌≡◌ {A = ℕ} (get_or (replicate n 0) k 0) 0
 zeros zero k = refl
@@ -157,59 +157,34 @@ module _ (code lengths : List ℕ) (threads : ℕ) (p : Program) (loaded : Loade
       unfolding puts first_puts or_zero
       nothing j b = ap (λ (is : List Instruction). or_zero (first_puts (alone p (values_in vs) t j).registers is (values_in vs (t, j)))) (stays j b)
 
-    -- where a thread has ended the rest of its accesses need not be met
-    iterations_over : k % 16 ≢ 0 → k < 96 → get_or lengths (k / 16) 0 ≤ thread.at → (n : ℕ) → n ≡ k / 16 * 16 + 16 → Progress code lengths p vs thread n places left
-    iterations_over q h e n z = record {
+    -- so there none is met
+    pub iteration_over : k % 16 ≢ 0 → k < 96 → get_or lengths (k / 16) 0 ≤ thread.at → Progress code lengths p vs thread (k + 1) places left
+    iteration_over q h e = record {
       machine = G.machine;
       state = G.state;
       holds = G.holds;
-      here = λ x. absurd (x (omega (arith, z)));
-      local = λ x. absurd (x (omega (arith, z)));
+      here = λ x. let z : (k + 1) / 16 ≡ k / 16 = omega (arith, x) in ap (thread_at G.machine) z ∙ G.here q;
+      local = λ x.
+          let z : (k + 1) / 16 ≡ k / 16 = omega (arith, x) in
+          let y : (k + 1) % 16 ≡ 1 + k % 16 = omega (arith, x) in
+          ap (λ (t : ℕ). (thread_of G.state t).local) z ∙ G.local q
+          ∙ sym (ap₂ (λ (t i : ℕ). alone p (values_in vs) t i) z y ∙ still (k / 16) (k % 16) (omega (arith, h)) (G.local q) (G.here q) e 1 (1 + k % 16) refl);
       at = λ j b. at_over j b (dec_lt j k);
       leaves = λ j b. left_over j b (dec_lt j k);
-      ahead = λ j b. G.ahead j (omega (arith, b, z));
+      ahead = λ j b. G.ahead j (omega (arith, b));
     }
       where
-        at_over : (j : ℕ) → j < n → Dec (j < k) → get_or places j 0 ≡ location_of p (values_in vs) (j / 16, j % 16)
+        at_over : (j : ℕ) → j < k + 1 → Dec (j < k) → get_or places j 0 ≡ location_of p (values_in vs) (j / 16, j % 16)
         at_over j b (yes c) = G.at j c
-        at_over j b (no c) = (G.ahead j (omega (arith, c))).0 ∙ sym (ap (λ (t : ℕ). location_of p (values_in vs) (t, j % 16)) (let w : j / 16 ≡ k / 16 = omega (arith, b, c, z) in w)
-            ∙ nowhere (k / 16) (k % 16) (omega (arith, h)) (G.local q) (G.here q) e (j % 16) (omega (arith, b, c, z)))
+        at_over j b (no c) = let z : j ≡ k = omega (arith, c) in
+            rw z ((G.ahead k (omega arith)).0 ∙ sym (nowhere (k / 16) (k % 16) (omega (arith, h)) (G.local q) (G.here q) e (k % 16) (omega arith)))
 
-        left_over : (j : ℕ) → j < n → Dec (j < k) → get_or left j 0 ≡ or_zero (out_of p (values_in vs) (j / 16, j % 16))
+        left_over : (j : ℕ) → j < k + 1 → Dec (j < k) → get_or left j 0 ≡ or_zero (out_of p (values_in vs) (j / 16, j % 16))
         left_over j b (yes c) = G.leaves j c
-        left_over j b (no c) = (G.ahead j (omega (arith, c))).1 ∙ sym (ap (λ (t : ℕ). or_zero (out_of p (values_in vs) (t, j % 16))) (let w : j / 16 ≡ k / 16 = omega (arith, b, c, z) in w)
-            ∙ nothing (k / 16) (k % 16) (omega (arith, h)) (G.local q) (G.here q) e (j % 16) (omega (arith, b, c, z)))
+        left_over j b (no c) = let z : j ≡ k = omega (arith, c) in
+            rw z ((G.ahead k (omega arith)).1 ∙ sym (nothing (k / 16) (k % 16) (omega (arith, h)) (G.local q) (G.here q) e (k % 16) (omega arith)))
 
-    -- all accesses of these threads have been met
-    pub iterations_done : 16 * threads ≤ k → RoundHeld threads p vs places left
-    iterations_done d = record {
-      at = λ t i a b. G.at (t * 16 + i) (omega arith) ∙ ap₂ (λ (u j : ℕ). location_of p (values_in vs) (u, j)) (omega arith) (omega arith);
-      leaves = λ t i a b. G.leaves (t * 16 + i) (omega arith) ∙ ap₂ (λ (u j : ℕ). or_zero (out_of p (values_in vs) (u, j))) (omega arith) (omega arith);
-    }
-
--- the number grows
-pub onward_grows : (b : Bool) (k n : ℕ) → n ≡ cond b (k + 1) (k / 16 * 16 + 16) → k < n
-onward_grows true k n e = omega (arith, e)
-onward_grows false k n e = omega (arith, e)
-
--- the next access to be met: behind a thread's end that is the first of the next thread
-pub iterations_onward : (code lengths : List ℕ) (threads : ℕ) (p : Program) → Loaded code lengths threads p → (vs : List ℕ) (opened : List ThreadState) (thread : ThreadState) (k : ℕ) (places left : List ℕ) → Opened code lengths p opened
-    → Progress code lengths p vs thread (k + 1) places left → k < 96 → (n : ℕ) → n ≡ cond (ltb thread.at (get_or lengths (k / 16) 0)) (k + 1) (k / 16 * 16 + 16)
-    → Progress code lengths p vs thread n places left
-iterations_onward code lengths threads p loaded vs opened thread k places left O G h n e = go (dec_lt thread.at (get_or lengths (k / 16) 0)) (ℕ_discrete ((k + 1) % 16) 0)
-  where
-    same : (j : ℕ) → n ≡ j → Progress code lengths p vs thread j places left → Progress code lengths p vs thread n places left
-    same j q x = subst (λ (i : ℕ). Progress code lengths p vs thread i places left) (sym q) x
-
-    go : Dec (thread.at < get_or lengths (k / 16) 0) → Dec ((k + 1) % 16 ≡ 0) → Progress code lengths p vs thread n places left
-    go (yes a) d = same (k + 1) (e ∙ rw (lt-ltb thread.at (get_or lengths (k / 16) 0) a)) G
-    go (no a) (yes q) = same (k + 1) (e ∙ rw (le-ltb thread.at (get_or lengths (k / 16) 0) (omega (arith, a))) (omega (arith, q))) G
-    go (no a) (no q) =
-        let z : (k + 1) / 16 ≡ k / 16 = omega (arith, q) in
-        iterations_over code lengths threads p loaded vs opened thread (k + 1) places left O G q (omega (arith, h, q))
-        (subst (λ (t : ℕ). get_or lengths t 0 ≤ thread.at) (sym z) (omega (arith, a))) n
-        (e ∙ rw (le-ltb thread.at (get_or lengths (k / 16) 0) (omega (arith, a))) (ap (λ (t : ℕ). t * 16 + 16) (sym z)))
-
+-- before the first access
 pub iterations_start : (code lengths : List ℕ) (p : Program) (vs : List ℕ) (opened : List ThreadState) (thread : ThreadState) → Opened code lengths p opened
     → Progress code lengths p vs thread 0 (replicate 96 0) (replicate 96 0)
 iterations_start code lengths p vs opened thread O = record {

@@ -7,9 +7,7 @@ use mathlib.Core.List.{List, [], ◌∷◌}
 use native.Mathlib.Omega.{arith}
 use borrow.Author.Tests.{lt-ltb, ne_eqb}
 use lib.Dec.{eqb, ltb}
-use native.Mathlib.Decide.{ℕ_discrete}
-use lib.ListN.{length, get_or, set, replicate}
-use lib.Seq.{get_or-set_same, get_or-set_other}
+use lib.ListN.{get_or, replicate}
 use Rattle.spec_file.specs.Program.{Program, initial}
 use Rattle.spec_file.specs.WellFormed.{all_accesses}
 use Rattle.spec_sc.specs.State.{Event, initial_write}
@@ -118,12 +116,3 @@ module _ (n : ℕ) (few : n ≤ 6) (p : Program) (vs places left : List ℕ) (R 
 pub values_start : (p : Program) (g : Graph) (e : Event) → values_in (replicate 96 0) e ≡ values p g 0 e
 unfolding values
 values_start p g e = zeros 96 (e.0 * 16 + e.1)
-
--- one source more is followed
-pub filled : (pairs left places starting vs : List ℕ) (k x : ℕ) → length vs ≡ 96 → k < 96 → ((j : ℕ) → j < k → get_or vs j 0 ≡ sourced pairs left places starting j) → x ≡ sourced pairs left places starting k
-    → (j : ℕ) → j < k + 1 → get_or (set vs k x) j 0 ≡ sourced pairs left places starting j
-filled pairs left places starting vs k x size h before e j i = go (ℕ_discrete j k)
-  where
-    go : Dec (j ≡ k) → get_or (set vs k x) j 0 ≡ sourced pairs left places starting j
-    go (yes q) = rw q (get_or-set_same vs k x 0 (omega arith) ∙ e)
-    go (no q) = get_or-set_other vs k j x 0 q ∙ before j (omega (arith, q))

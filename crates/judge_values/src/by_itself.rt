@@ -4,8 +4,8 @@ ghost use Rattle.spec_sc.specs.State.{State, place};
 ghost use Rattle.machine.specs.Held.{thread_at, Holds};
 ghost use Rattle.judge_values.specs.HeldRounds.{MetAlone};
 
-use file_lines::wide;
-use file_rows::Code;
+use file_decoder::Compiled;
+use file_lines::{choose, wide};
 use machine::{Machine, lean_step};
 use machine_access::ThreadState;
 
@@ -18,33 +18,23 @@ pub struct Lone {
 }
 
 // Thread t's next access, which finds x, where the thread stands so.
-pub(crate) fn met(code: &Code, lengths: &[usize; 6], thread: ThreadState, t: u8, x: u32) -> Lone
-    requires { (t < 6) × (get_or lengths.now t 0 ≤ 16) × (thread.done ≤ thread.at) }
-    ensures { (m : Machine) (σ : State) → thread_at m t ≡ thread → Holds code.now lengths.now m σ
-        → place σ t < 8 → MetAlone code.now lengths.now σ t x result }
+pub(crate) fn met(program: &Compiled, thread: ThreadState, t: u8, x: u32) -> Lone
+    requires { (t < 6) × (get_or program.now.lengths t 0 ≤ 16) × (thread.done ≤ thread.at) }
+    ensures { (m : Machine) (σ : State) → thread_at m t ≡ thread → Holds program.now.code program.now.lengths m σ
+        → place σ t < 8 → MetAlone program.now.code program.now.lengths σ t x result }
 {
-    if lengths[wide(t)] <= thread.at {
+    if program.lengths[wide(t)] <= thread.at {
         return Lone {
-            thread: thread,
+            thread,
             place: 0,
             left: 0,
         };
     }
-    let s = lean_step(code, lengths, thread, [x; 8], t);
-    let after = s.thread;
-    let place = s.location;
-    if !s.wrote {
-        return Lone {
-            thread: after,
-            place: place,
-            left: 0,
-        };
-    }
-    let l = wide(place) % 8;
-    let memory = s.memory;
+    let s = lean_step(program, thread, [x; 8], t);
+    let l = wide(s.location) % 8;
     Lone {
-        thread: after,
-        place: place,
-        left: memory[l],
+        thread: s.thread,
+        place: s.location,
+        left: choose(s.wrote, s.memory[l], 0),
     }
 }

@@ -1,6 +1,8 @@
 -- The list counted modulo 2^64, and what count says of a program file.
-use Rattle.std.proofs.Common.{◌≡◌, ℕ, zero, ◌+◌, ◌*◌, ◌%◌, ◌^◌, ◌<◌, ◌≤◌, Bool, true, false, List, length, sym, refl, ap, ◌∙◌, ap₂, arith}
+use Rattle.std.proofs.Common.{◌≡◌, ℕ, ◌+◌, ◌*◌, ◌%◌, ◌^◌, Bool, true, false, List, length, sym, refl, ap, ◌∙◌, ap₂}
 use native.Mathlib.Nat.{mod-add-mod}
+use Rattle.std.specs.Prelude.{Result, Ok, Err}
+use Rattle.spec_file.specs.declared.refusal.Refusal.{Refusal}
 use Rattle.spec_file.specs.Program.{Program}
 use Rattle.spec_file.specs.Decode.{Decoded, accepted, refused, decode}
 use Rattle.spec_schedules.specs.Lists.{filter}
@@ -15,7 +17,7 @@ use Rattle.spec_calls.specs.Rows.{row_size}
 use Rattle.listing_cursor.specs.Rows.{Shown}
 use Rattle.listing_cursor.specs.Cursor.{from, is_end, Paged}
 use Rattle.listing_cursor.proofs.CountedRows.{Counting, counting_start, counting_over, counting_next}
-use Rattle.listing.specs.declared.counting.CountAnswer.TheVariants.{Counted, Refused}
+use Rattle.states_memory.specs.declared.tally.Tally.{Tally}
 use Rattle.listing.specs.CountWord.{count_answer_of}
 
 -- counted so far, modulo 2^64: the true counts are known to no one
@@ -53,7 +55,7 @@ wrapped_next M p c rows listed failed w rows' r page f fs n m en em = record {
 }
 
 -- nothing is to come any more
-pub wrapped_over : (M : Model) (p : Program) (c : Cursor) (rows : List ℕ) (listed failed : ℕ) → Wrapped M p c rows listed failed → is_end c.position ≡ true
+pub wrapped_over : (M : Model) (p : Program) (c : Cursor) (rows : List ℕ) (listed failed : ℕ) → Wrapped M p c rows listed failed → is_end c ≡ true
     → (listed ≡ (count_of M p).listed) × (failed ≡ (count_of M p).failed)
 unfolding count_of sought
 wrapped_over M p c rows listed failed w e =
@@ -63,12 +65,13 @@ wrapped_over M p c rows listed failed w e =
 -- ---- on a file
 module _ (M : Model) (file : List ℕ) where
   -- the file is refused, or its program turned away
-  pub count_refused : (n k : ℕ) → admit M (decode file) ≡ refused n k → Refused n k ≡ count_answer_of (count_file M file)
+  pub count_refused : (r : Refusal) → admit M (decode file) ≡ refused r.number r.place → Err r ≡ count_answer_of (count_file M file)
   unfolding count_on count_answer_of
-  count_refused n k e = ap (λ (d : Decoded). count_answer_of (count_on M d)) (sym e)
+  count_refused r e = ap (λ (d : Decoded). count_answer_of (count_on M d)) (sym e)
 
   -- the program of the file is listed
-  pub count_answered : (p : Program) → admit M (decode file) ≡ accepted p → (listed failed : ℕ) → (listed ≡ (count_of M p).listed) × (failed ≡ (count_of M p).failed)
-      → Counted listed failed ≡ count_answer_of (count_file M file)
+  pub count_answered : (p : Program) → admit M (decode file) ≡ accepted p → (n : Tally) → (n.listed ≡ (count_of M p).listed) × (n.failing ≡ (count_of M p).failed)
+      → Ok n ≡ count_answer_of (count_file M file)
   unfolding count_on count_answer_of
-  count_answered p e listed failed c = rw (c.0, c.1) (ap (λ (d : Decoded). count_answer_of (count_on M d)) (sym e))
+  count_answered p e n c =
+      ap₂ {C = Result Tally Refusal} (λ l f. Ok (record { listed = l; failing = f })) c.0 c.1 ∙ ap (λ (d : Decoded). count_answer_of (count_on M d)) (sym e)

@@ -1,5 +1,5 @@
 -- What is promised of sequential consistency beside demand 3 holds of every accepted file.
-use Rattle.std.proofs.Common.{◌≡◌, ℕ, ◌%◌, ◌^◌, ◌<◌, ◌≤◌, Bool, true, false, List, length, take, drop, sym, refl, ap, ◌∙◌, subst, ap₂, arith}
+use Rattle.std.proofs.Common.{◌≡◌, ℕ, ◌%◌, ◌^◌, ◌<◌, ◌≤◌, Bool, true, false, Option, Result, List, length, take, drop, sym, refl, ap, ◌∙◌, subst, ap₂, arith}
 use Rattle.spec_file.specs.Program.{Program}
 use Rattle.spec_file.specs.Decode.{accepted, decode}
 use Rattle.spec_file.proofs.AcceptedWellFormed.{accepted_well_formed}
@@ -9,19 +9,17 @@ use Rattle.spec_schedules.proofs.Kept.{filter_length}
 use Rattle.spec_model.specs.Model.{failing}
 use Rattle.spec_model.specs.Alike.{list_of}
 use Rattle.spec_model.specs.OnFile.{Count, counted}
-use Rattle.spec_model.specs.Exchange.{Exchange}
 use Rattle.spec_model.specs.Laws.{Admitted}
 use Rattle.spec_model.proofs.Alike.{alike_graph}
 use Rattle.spec_model.proofs.TheList.{list_exact, one_each}
 use Rattle.spec_sc.specs.Graph.{Graph, graph, Full}
-use Rattle.spec_sc.specs.Exchange.{Renames}
 use Rattle.spec_sc.specs.Sequential.{sc}
 use Rattle.spec_sc.proofs.Laws.{sc_laws}
 use Rattle.spec_judge.specs.Consistent.{Consistent}
 use Rattle.spec_judge.specs.Answer.{Answer, consistent, Judgement, output_after}
-use Rattle.spec_judge.specs.Demand2.{Demand2, text_for}
+use Rattle.spec_judge.specs.Demand2.{text_for}
 use Rattle.spec_judge.proofs.Demand2.{demand_2}
-use Rattle.judge.specs.declared.answering.Outcome.{Outcome}
+use Rattle.spec_file.specs.declared.refusal.Refusal.{Refusal}
 use Rattle.judge.specs.Call.{outcome_of}
 use Rattle.spec_sc.proofs.TheList.{list_fits}
 use Rattle.spec_sc.proofs.NoThreadListed.{none_list}
@@ -61,7 +59,7 @@ module _ (file : List ℕ) (p : Program) (e : decode file ≡ accepted p) where
       let own = (d.least (text_for p s) room h (graph p s) (d.text_back s f) s).1 (f, refl, none_smaller s m) in
       one.2 a j ∙ sym (one.2 (consistent s) own)
 
-  judged : (s : Schedule) → InList sc p s → (out : List ℕ) → 24 ≤ length out → (r : Outcome) (later : List ℕ) → Judges file (text_for p s) out r later →
+  judged : (s : Schedule) → InList sc p s → (out : List ℕ) → 24 ≤ length out → (r : Result (Option ℕ) Refusal) (later : List ℕ) → Judges file (text_for p s) out r later →
       (r ≡ outcome_of (consistent s)) × (take (length s) later ≡ s) × (drop (length s) later ≡ drop (length s) out)
   judged s m out h r later j =
       let is = answers_it s m (length out) h j.0 j.1 in

@@ -13,21 +13,8 @@ use listing_cursor::{beginning, failing_in, is_end};
 use listing_model::{Model, width};
 use listing_pages::next_page;
 use listing_replay::admitted;
-use std::num::wrapping_add_usize;
-
-#[derive(Clone, Copy)]
-pub struct Tally {
-    pub listed: usize,
-    pub failing: usize,
-}
-
-#[derive(Clone, Copy)]
-pub enum CountAnswer {
-    // How many are listed, and how many of these fail.
-    Counted(usize, usize),
-    // The refusal's number and place.
-    Refused(u8, usize),
-}
+use spec_file::Refusal;
+use states_memory::{Tally, added};
 
 // The counts of a listed program, by pages of 64 rows in a lent buffer.
 fn counted(model: Model, program: Compiled, rows: &mut [u8]) -> Tally
@@ -37,26 +24,30 @@ fn counted(model: Model, program: Compiled, rows: &mut [u8]) -> Tally
 {
     let need = width(model);
     let mut cursor = beginning();
-    let mut listed = 0;
-    let mut failing = 0;
+    let mut tally = Tally {
+        listed: 0,
+        failing: 0,
+    };
     while !is_end(cursor) {
         let page = next_page(model, program, cursor, false, rows);
-        let n = page.rows;
-        listed = wrapping_add_usize(listed, n);
-        failing = wrapping_add_usize(failing, failing_in(rows, need, n));
+        let failing = failing_in(rows, need, page.rows);
+        tally = added(
+            tally,
+            Tally {
+                listed: page.rows as u64,
+                failing: failing as u64,
+            },
+        );
         cursor = page.cursor;
     }
-    Tally {
-        listed: listed,
-        failing: failing,
-    }
+    tally
 }
 
 // The bytes of a page: 64 rows of 50 bytes, the longer ones of the two models.
 const PAGE_BYTES: usize = 3200;
 
 // The counts of a listed program.
-pub(crate) fn counts(model: Model, program: Compiled) -> Tally
+fn counts(model: Model, program: Compiled) -> Tally
     requires { Admitted (model_of model) (program_of program) }
     ensures { (result.listed ≡ (count_of (model_of model) (program_of program)).listed)
         × (result.failing ≡ (count_of (model_of model) (program_of program)).failed) }
@@ -67,17 +58,9 @@ pub(crate) fn counts(model: Model, program: Compiled) -> Tally
 }
 
 // The counts of a program file, which may be refused.
-pub fn count(model: Model, file: &[u8]) -> CountAnswer
+pub fn count(model: Model, file: &[u8]) -> Result<Tally, Refusal>
     ensures { result ≡ count_answer_of (count_file (model_of model) file.now) }
 {
-    let a = admitted(model, file);
-    let v = a.verdict;
-    match v {
-        file_decoder::Verdict::Refused(n, k) => CountAnswer::Refused(n, k),
-        file_decoder::Verdict::Accepted => {
-            let p = a.program;
-            let c = counts(model, p);
-            CountAnswer::Counted(c.listed, c.failing)
-        }
-    }
+    let program = admitted(model, file)?;
+    Ok(counts(model, program))
 }

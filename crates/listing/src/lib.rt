@@ -6,5 +6,5 @@ mod calling;
 // How many are listed, and how many of these fail.
 mod counting;
 
-pub use calling::{ListAnswer, continue_from, start, violation};
-pub use counting::{CountAnswer, Tally, count};
+pub use calling::{continue_from, start, violation};
+pub use counting::count;

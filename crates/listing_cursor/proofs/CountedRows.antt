@@ -1,9 +1,9 @@
 -- A list counted by pages: the rows of a page that fail, and what is counted with what is yet to come.
 use Prim.Native.Nat.{ℕ, suc, ◌+◌, ◌*◌, ◌/◌, ◌<◌, ◌≤◌}
-use mathlib.Core.Path.{◌≡◌, refl, sym, ap, subst, ◌∙◌}
+use mathlib.Core.Path.{◌≡◌, refl, sym, ap, ◌∙◌}
 use mathlib.Core.Logic.{◌≢◌}
 use mathlib.Core.Bool.{Bool, true, false, cond}
-use mathlib.Core.List.{List, [], ◌∷◌, ◌++◌}
+use mathlib.Core.List.{List, [], ◌∷◌}
 use native.Mathlib.Nat.{mul-div_cancel, le_trans, le_of_eq}
 use native.Mathlib.Omega.{arith}
 use lib.ListN.{length, get_or, take, length-append, length-take}
@@ -95,7 +95,7 @@ module _ (w : ℕ) (fails : Schedule → Bool) (l : List Schedule) where
   }
 
   -- nothing is to come any more
-  pub counting_over : (c : Cursor) (rows : List ℕ) (listed failed : ℕ) → Counting c rows listed failed → is_end c.position ≡ true
+  pub counting_over : (c : Cursor) (rows : List ℕ) (listed failed : ℕ) → Counting c rows listed failed → is_end c ≡ true
       → (listed ≡ length l) × (failed ≡ length (filter fails l))
   counting_over c rows listed failed k e =
       let z = ap length (from_end l c e) in
@@ -154,5 +154,5 @@ module _ (w : ℕ) (fails : Schedule → Bool) (l : List Schedule) where
         }
 
     -- there are fewer pages to come
-    pub counting_less : is_end c.position ≡ false → pages r.cursor l < pages c l
+    pub counting_less : is_end c ≡ false → pages r.cursor l < pages c l
     counting_less e = page_less w fails l c rows rows' r page (omega (arith, room)) e

@@ -1,5 +1,5 @@
 -- The first row of a page, read back as the schedule that it holds.
-use Prim.Native.Nat.{ℕ, ◌+◌, ◌/◌, ◌<◌, ◌≤◌}
+use Prim.Native.Nat.{ℕ, ◌/◌, ◌≤◌}
 use mathlib.Core.Path.{◌≡◌, refl, sym, ap, subst, ◌∙◌}
 use mathlib.Core.Logic.{◌≢◌}
 use mathlib.Core.Bool.{Bool}
@@ -7,10 +7,9 @@ use mathlib.Core.List.{List, [], ◌∷◌, append-nil, flat_map, Memᴰ}
 use mathlib.Core.Option.{none, some}
 use native.Mathlib.Nat.{div_self}
 use native.Mathlib.Omega.{arith}
-use lib.ListN.{length, get_or, set, take, drop, length-drop}
-use lib.Seq.{get_or-drop}
+use lib.ListN.{length, get_or, take, drop}
 use Rattle.spec_file.specs.Over.{over}
-use Rattle.spec_file.proofs.Over.{over_whole, over_more}
+use Rattle.spec_file.proofs.Over.{over_whole}
 use Rattle.spec_schedules.specs.Lists.{head_of}
 use Rattle.spec_schedules.specs.Order.{Schedule}
 use Rattle.spec_schedules.proofs.After.{head_nil}
@@ -77,11 +76,3 @@ module _ (w : ℕ) (fails : Schedule → Bool) (held row : List ℕ) (n : ℕ) (
     first_steps k e most =
         ap (λ (i : ℕ). take i (drop 2 row)) (first_length k e) ∙ ap (λ (b : List ℕ). take (length here.schedule) (drop 2 b)) here.bytes
         ∙ row_steps w here.schedule (fails here.schedule) most
-
--- one step of a row's schedule more, copied to the front of an output
-pub schedule_more : (row held out : List ℕ) (k b : ℕ) → k + 2 < length row → k < length held → out ≡ over (take k (drop 2 row)) held → b ≡ get_or row (k + 2) 0
-    → set out k b ≡ over (take (k + 1) (drop 2 row)) held
-schedule_more row held out k b h l e v =
-    let n = length-drop 2 row in
-    let i : 2 + k ≡ k + 2 = omega arith in
-    over_more (drop 2 row) held out k b (omega (arith, n, h)) l e (v ∙ ap (λ (m : ℕ). get_or row m 0) (sym i) ∙ sym (get_or-drop 2 row k 0))

@@ -20,10 +20,10 @@ use Rattle.listing_cursor.specs.declared.cursor.Page.{Page}
 use Rattle.listing_cursor.specs.Bounds.{bound_at}
 use Rattle.spec_calls.specs.Rows.{row_size, rows_of}
 use Rattle.listing_cursor.specs.Rows.{Shown}
-use Rattle.listing_cursor.specs.Cursor.{from, position_at, is_end, pages, Paged}
+use Rattle.listing_cursor.specs.Cursor.{from, bound_of, is_end, pages, Paged}
 use Rattle.listing_cursor.proofs.AddedRows.{rows_length, rows_fit, rows_within}
 use Rattle.listing_cursor.proofs.RowsRead.{shown_length, shown_steps}
-use Rattle.listing_cursor.proofs.CursorLaws.{from_end, from_tight}
+use Rattle.listing_cursor.proofs.CursorLaws.{from_end, from_bound}
 
 -- dropping as many as the first n are drops n
 drop_taken : {A : Type 0} (n : ℕ) (l : List A) → drop (length (take n l)) l ≡ drop n l
@@ -59,13 +59,13 @@ module _ (w : ℕ) (fails : Schedule → Bool) where
         ∙ ap (λ (k : ℕ). k + length (from r.cursor l)) (sym page.shown.counted)
 
     -- with room for a row there are fewer pages to come behind it
-    pub page_less : 0 < length held / row_size w → is_end c.position ≡ false → pages r.cursor l < pages c l
-    page_less room_for e = go (is_end r.cursor.position) refl
+    pub page_less : 0 < length held / row_size w → is_end c ≡ false → pages r.cursor l < pages c l
+    page_less room_for e = go (is_end r.cursor) refl
       where
         left : pages c l ≡ length (from c l) + 1
         left = ap (λ (b : Bool). length (from c l) + cond b 0 1) e
 
-        go : (b : Bool) → is_end r.cursor.position ≡ b → pages r.cursor l < pages c l
+        go : (b : Bool) → is_end r.cursor ≡ b → pages r.cursor l < pages c l
         go true q =
             let z : pages r.cursor l ≡ length (from r.cursor l) + 0 = ap (λ (b : Bool). length (from r.cursor l) + cond b 0 1) q in
             omega (arith, z, left, page_lengths)
@@ -75,7 +75,7 @@ module _ (w : ℕ) (fails : Schedule → Bool) where
             omega (arith, z, left, page_lengths, full, room_for)
 
   -- at the end there are no rows
-  pub page_over : (l : List Schedule) (c : Cursor) (held : List ℕ) → is_end c.position ≡ true → Paged w fails l c held held (record { rows = 0; cursor = c })
+  pub page_over : (l : List Schedule) (c : Cursor) (held : List ℕ) → is_end c ≡ true → Paged w fails l c held held (record { rows = 0; cursor = c })
   unfolding rows_of flat_map
   page_over l c held e =
       let z = from_end l c e in
@@ -88,7 +88,7 @@ module _ (w : ℕ) (fails : Schedule → Bool) where
 
   -- what the search leaves: rows of the first so many behind the bound, which are those that the cursor has yet to come
   module _ (l : List Schedule) (ascends : Ascends less l) (most : (s : Schedule) → Memᴰ s l → length s ≤ w) (tight : Bool) (c : Cursor) (b held out : List ℕ) (rows : ℕ)
-      (at : c.position ≡ position_at tight) (bytes : b ≡ take c.steps c.schedule)
+      (goes_on : is_end c ≡ false) (at : bound_at tight b 0 ≡ bound_of c)
       (found : Shown w fails (take (length held / row_size w) (after (bound_at tight b 0) l)) held out rows) where
     abbrev room : ℕ
     room = length held / row_size w
@@ -97,7 +97,7 @@ module _ (w : ℕ) (fails : Schedule → Bool) where
     rest = after (bound_at tight b 0) l
 
     same : rest ≡ from c l
-    same = from_tight l c tight b at bytes
+    same = ap (λ (o : Option Schedule). after o l) at ∙ from_bound l c goes_on
 
     shown : Shown w fails (take room (from c l)) held out rows
     shown = subst (λ (k : List Schedule). Shown w fails (take room k) held out rows) same found
@@ -112,7 +112,7 @@ module _ (w : ℕ) (fails : Schedule → Bool) where
     counted = found.counted
 
     -- fewer rows than there is room for: nothing is left
-    pub page_ended : (e : Cursor) → is_end e.position ≡ true → rows < length out / row_size w → Paged w fails l c held out (record { rows = rows; cursor = e })
+    pub page_ended : (e : Cursor) → is_end e ≡ true → rows < length out / row_size w → Paged w fails l c held out (record { rows = rows; cursor = e })
     page_ended e q h =
         let n : length (from c l) ≤ rows = omega (arith, h, room_is, counted, length-take room rest, ap length same) in
         record { shown = shown; rest = from_end l e q ∙ sym (drop_of_length-le (from c l) n); ends = λ _. q }

@@ -1,14 +1,17 @@
--- The bytes of a row, one after the other.
-use Prim.Native.Nat.{ℕ, zero, suc, ◌+◌, ◌-◌, ◌*◌, ◌<◌, ◌≤◌}
+-- The bytes of a row, one after the other, and as they are written.
+use Prim.Native.Nat.{ℕ, ◌+◌, ◌-◌, ◌≤◌}
 use mathlib.Core.Path.{◌≡◌, refl, sym, ap, ap₂, ◌∙◌}
 use mathlib.Core.Bool.{Bool, cond}
-use mathlib.Core.List.{List}
+use mathlib.Core.List.{List, [], ◌∷◌, ◌++◌, append_assoc}
 use native.Mathlib.Omega.{arith}
-use lib.ListN.{length, get_or, set, take, length-take, get_or-eq_default}
-use lib.Seq.{take-suc, take_all, get_or-take}
+use lib.ListN.{length, get_or, set, take, drop, replicate, length-append, length-replicate, length-set, length-take, length-drop}
+use lib.Seq.{drop-drop}
+use borrow.Rule.Slice.PartMut.{mid_of, put_mid}
+use Rattle.std.proofs.lemmas.Grind.{common_steps}
+use Rattle.std.proofs.lemmas.List.{drop-set-lt}
+use Rattle.std.proofs.lemmas.Slice.{take-put_mid, drop-put_mid}
 use Rattle.spec_file.specs.Over.{over}
-use Rattle.spec_file.proofs.Over.{over_nil, over_snoc}
-use Rattle.file_rows.proofs.Tabulate.{length_tabulate, get_d_tabulate}
+use Rattle.file_rows.proofs.Tabulate.{length_tabulate, tabulate_members}
 use Rattle.spec_schedules.specs.Order.{Schedule}
 use Rattle.spec_calls.specs.Rows.{row_bytes, row_size}
 
@@ -16,57 +19,41 @@ pub row_length : (w : ℕ) (s : Schedule) (f : Bool) → length (row_bytes w s f
 unfolding row_bytes
 row_length w s f = let e = length_tabulate (λ k. get_or s k 0) w in omega (arith, e)
 
-pub row_step : (w : ℕ) (s : Schedule) (f : Bool) (k : ℕ) → 2 ≤ k → k < row_size w → get_or (row_bytes w s f) k 0 ≡ get_or s (k - 2) 0
-unfolding row_bytes
-row_step w s f zero h l = absurd (omega arith)
-row_step w s f (suc zero) h l = absurd (omega arith)
-row_step w s f (suc (suc k)) h l =
-    let e : k ≡ suc (suc k) - 2 = omega arith in
-    get_d_tabulate (λ k. get_or s k 0) w k 0 (omega arith) ∙ ap (λ (j : ℕ). get_or s j 0) e
+-- the first two bytes of a buffer
+two : (held : List ℕ) (a b : ℕ) → 2 ≤ length held → take 2 (set (set held 0 a) 1 b) ≡ a ∷ b ∷ []
+two [] a b h = absurd (omega arith)
+two (x ∷ []) a b h = absurd (omega arith)
+two (x ∷ y ∷ l) a b h = refl
 
--- the row's first k bytes stand over the front of what was held, for whatever that was, as far as they did at the start of a loop
-abbrev pub Front : (w : ℕ) (row out₀ out : List ℕ) (k₀ k : ℕ) → Type 0
-Front w row out₀ out k₀ k = (held : List ℕ) → row_size w ≤ length held → out₀ ≡ over (take (k₀ + 2) row) held → out ≡ over (take (k + 2) row) held
+module _ (w : ℕ) (s : Schedule) (f : Bool) (most : length s ≤ w) where
+  abbrev zeros : List ℕ
+  zeros = replicate (w - length s) 0
 
-module _ (w : ℕ) (s : Schedule) (f : Bool) where
-  -- one byte of the row more
-  pub row_more : (held out : List ℕ) (k b : ℕ) → k < row_size w → row_size w ≤ length held → out ≡ over (take k (row_bytes w s f)) held
-      → b ≡ get_or (row_bytes w s f) k 0 → set out k b ≡ over (take (k + 1) (row_bytes w s f)) held
-  row_more held out k b h room e v =
-      let n = row_length w s f in
-      let c : length (take k (row_bytes w s f)) ≡ k = length-take k (row_bytes w s f) ∙ omega (arith, n) in
-      let j : suc k ≡ k + 1 = omega arith in
-      ap₂ (λ (o : List ℕ) (x : ℕ). set o k x) e v
-      ∙ over_snoc (take k (row_bytes w s f)) held k (get_or (row_bytes w s f) k 0) c (omega (arith, room))
-      ∙ ap (λ (t : List ℕ). over t held) (sym (take-suc (row_bytes w s f) k 0 (omega (arith, n))) ∙ ap (λ (i : ℕ). take i (row_bytes w s f)) j)
-
-  -- the number of steps, and the flag
-  first_two : (held : List ℕ) (b : ℕ) → b ≡ cond f 1 0 → row_size w ≤ length held → set (set held 0 (length s)) 1 b ≡ over (take 2 (row_bytes w s f)) held
+  -- its steps, with zeros behind them
+  row_is : row_bytes w s f ≡ length s ∷ cond f 1 0 ∷ (s ++ zeros)
   unfolding row_bytes
-  first_two held b e h = row_more held _ 1 b (omega arith) h (row_more held held 0 (length s) (omega arith) h (sym (over_nil held)) refl) e
+  row_is = ap (λ (t : List ℕ). length s ∷ cond f 1 0 ∷ t)
+      (tabulate_members (λ k. get_or s k 0) w (s ++ zeros) 0 (simp (length-append, length-replicate) (omega arith)) (λ i b. grind (arith, common_steps)))
 
-  pub row_begun : (held : List ℕ) (b k : ℕ) → b ≡ cond f 1 0 → row_size w ≤ length held → k ≡ 0
-      → set (set held 0 (length s)) 1 b ≡ over (take (k + 2) (row_bytes w s f)) held
-  row_begun held b k e h z = first_two held b e h ∙ ap (λ (i : ℕ). over (take (i + 2) (row_bytes w s f)) held) (sym z)
-
-  more : (held out : List ℕ) (k b : ℕ) → k < w → row_size w ≤ length held → out ≡ over (take (k + 2) (row_bytes w s f)) held → b ≡ get_or s k 0
-      → set out (k + 2) b ≡ over (take (k + 1 + 2) (row_bytes w s f)) held
-  more held out k b h room e v =
-      let q : k + 2 + 1 ≡ k + 1 + 2 = omega arith in
-      let i : k ≡ k + 2 - 2 = omega arith in
-      row_more held out (k + 2) b (omega (arith, h)) room e
-      (v ∙ ap (λ (j : ℕ). get_or s j 0) i ∙ sym (row_step w s f (k + 2) (omega arith) (omega (arith, h))))
-      ∙ ap (λ (i : ℕ). over (take i (row_bytes w s f)) held) q
-
-  -- a step more, and a zero more behind the last
-  pub front_step : (out₀ out : List ℕ) (k₀ k : ℕ) → length s ≤ w → k < length s → Front w (row_bytes w s f) out₀ out k₀ k
-      → Front w (row_bytes w s f) out₀ (set out (k + 2) (get_or s k 0)) k₀ (k + 1)
-  front_step out₀ out k₀ k most h front held room e = more held out k (get_or s k 0) (omega (arith, h, most)) room (front held room e) refl
-
-  pub front_zero : (out₀ out : List ℕ) (k₀ k : ℕ) → length s ≤ k → k < w → Front w (row_bytes w s f) out₀ out k₀ k
-      → Front w (row_bytes w s f) out₀ (set out (k + 2) 0) k₀ (k + 1)
-  front_zero out₀ out k₀ k h l front held room e = more held out k 0 l room (front held room e) (sym (get_or-eq_default s 0 h))
-
-  -- the whole row
-  pub row_whole : (held out : List ℕ) (k : ℕ) → row_size w ≤ k → out ≡ over (take k (row_bytes w s f)) held → out ≡ over (row_bytes w s f) held
-  row_whole held out k h e = let n = row_length w s f in e ∙ ap (λ (t : List ℕ). over t held) (take_all k (row_bytes w s f) (omega (arith, n)))
+  -- with the number of steps and the flag in front and the steps behind them, and then zeros up to its end, the row is written
+  pub row_written : (held : List ℕ) (b : ℕ) (steps rest : List ℕ) → row_size w ≤ length held → b ≡ cond f 1 0 → steps ≡ s
+      → rest ≡ replicate (length (mid_of (length s + 2) (w + 2 - (length s + 2)) (put_mid 2 (length s + 2 - 2) (set (set held 0 (length s)) 1 b) steps))) 0
+      → put_mid (length s + 2) (w + 2 - (length s + 2)) (put_mid 2 (length s + 2 - 2) (set (set held 0 (length s)) 1 b) steps) rest ≡ over (row_bytes w s f) held
+  unfolding over
+  row_written held b steps rest room e es er =
+      let n = length s in
+      let front = set (set held 0 n) 1 b in
+      let long : length front ≡ length held = simp length-set in
+      let same : length steps ≡ n = ap length es in
+      let first : take (n + 2) (put_mid 2 (n + 2 - 2) front steps) ≡ n ∷ b ∷ s =
+      take-put_mid 2 (n + 2 - 2) front steps (n + 2) (omega arith) (omega arith) ∙ ap₂ (λ (x y : List ℕ). x ++ y) (two held n b (omega arith)) es in
+      let left : drop (n + 2) (put_mid 2 (n + 2 - 2) front steps) ≡ drop (n + 2) held =
+      drop-put_mid 2 (n + 2 - 2) front steps (n + 2) (omega arith) (omega arith) (omega arith)
+      ∙ drop-set-lt (n + 2) (set held 0 n) 1 b (omega arith) ∙ drop-set-lt (n + 2) held 0 n (omega arith) in
+      let behind : drop (w + 2 - (n + 2)) (drop (n + 2) held) ≡ drop (w + 2) held = drop-drop (w + 2 - (n + 2)) (n + 2) held ∙ ap (λ (k : ℕ). drop k held) (omega arith) in
+      let between : length (take (w + 2 - (n + 2)) (drop (n + 2) held)) ≡ w - n = simp (length-take, length-drop) (omega arith) in
+      let zero : rest ≡ zeros = er ∙ ap (λ (k : ℕ). replicate k 0) (ap (λ (y : List ℕ). length (take (w + 2 - (n + 2)) y)) left ∙ between) in
+      ap₂ (λ (x y : List ℕ). x ++ (rest ++ drop (w + 2 - (n + 2)) y)) first left
+      ∙ ap₂ (λ (x y : List ℕ). (n ∷ b ∷ s) ++ (x ++ y)) zero behind
+      ∙ sym (append_assoc (n ∷ b ∷ s) zeros (drop (w + 2) held))
+      ∙ ap₂ (λ (x y : List ℕ). x ++ y) (ap (λ (k : ℕ). n ∷ k ∷ (s ++ zeros)) e ∙ sym row_is) (ap (λ (k : ℕ). drop k held) (sym (row_length w s f)))

@@ -1,7 +1,7 @@
 -- A search over the next bytes in turn, for whatever it searches: what the bytes from t on add completes the whole. `K` are the cases that
 -- the code's arrays may stand for; in each, `each` is what is found with one next byte and `whole` what is found behind the prefix.
 use Prim.Native.Nat.{ℕ, ◌+◌, ◌-◌, ◌<◌, ◌≤◌}
-use mathlib.Core.Path.{◌≡◌, sym, ap, subst, ◌∙◌}
+use mathlib.Core.Path.{◌≡◌, sym, subst, ◌∙◌}
 use mathlib.Core.Bool.{Bool}
 use mathlib.Core.List.{List, []}
 use lib.ListN.{length}

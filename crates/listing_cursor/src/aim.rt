@@ -14,8 +14,5 @@ pub struct Aim {
 pub fn is_meant(failures: bool, f: bool) -> bool
     ensures { result ≡ (not failures || f) }
 {
-    if failures {
-        return f;
-    }
-    true
+    !failures || f
 }

@@ -7,10 +7,8 @@ ghost use Rattle.listing_cursor.specs.Bounds.{bound_at};
 pub fn first_byte(bound: &[u8], tight: bool, k: usize) -> u8
     ensures { result ≡ low (bound_at tight bound.now k) }
 {
-    if tight {
-        if k < bound.len() {
-            return bound[k];
-        }
+    if tight && k < bound.len() {
+        return bound[k];
     }
     0
 }
@@ -19,10 +17,8 @@ pub fn first_byte(bound: &[u8], tight: bool, k: usize) -> u8
 pub fn stays_tight(bound: &[u8], tight: bool, k: usize, t: u8) -> bool
     ensures { bound_at result bound.now (k + 1) ≡ past (bound_at tight bound.now k) t }
 {
-    if tight {
-        if k < bound.len() {
-            return bound[k] == t;
-        }
+    if tight && k < bound.len() {
+        return bound[k] == t;
     }
     false
 }

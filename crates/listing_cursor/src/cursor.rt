@@ -1,28 +1,23 @@
 // A cursor: a place in the list that is walked. It has room for 48 steps, more than a listed schedule has in any model.
-ghost use Rattle.std.specs.Prelude.{◌≡◌, min, ◌≤◌, length};
+ghost use Rattle.std.specs.Prelude.{◌≡◌, ◌≤◌, length};
 ghost use mathlib.Core.List.{List, Memᴰ};
 ghost use Rattle.std.proofs.Math.Option.{some};
 ghost use Rattle.spec_schedules.specs.Order.{Schedule};
 ghost use Rattle.spec_schedules.specs.Found.{after};
-ghost use Rattle.listing_cursor.specs.declared.cursor.Position.TheVariants.{End};
+ghost use Rattle.listing_cursor.specs.declared.cursor.Cursor.TheVariants.{End};
 ghost use Rattle.listing_cursor.specs.Cursor.{from, is_end};
 
+use crate::steps::Steps;
+
+// Where a walk of the list stands.
 #[derive(Clone, Copy)]
-pub enum Position {
+pub enum Cursor {
     // Before the first listed schedule.
     Beginning,
-    // Behind the cursor's schedule.
-    Behind,
+    // Behind this schedule.
+    Behind(Steps<48>),
     // Behind the last listed schedule.
     End,
-}
-
-// Where a walk of the list stands; of the schedule behind which it stands the first `steps` bytes count.
-#[derive(Clone, Copy)]
-pub struct Cursor {
-    pub position: Position,
-    pub schedule: [u8; 48],
-    pub steps: usize,
 }
 
 // A page: the number of its rows, and the cursor behind them.
@@ -36,41 +31,21 @@ pub struct Page {
 pub fn beginning() -> Cursor
     ensures { (l : List Schedule) → from result l ≡ l }
 {
-    Cursor {
-        position: Position::Beginning,
-        schedule: [0u8; 48],
-        steps: 0,
-    }
+    Cursor::Beginning
 }
 
 // Nothing is to come any more.
 pub fn end() -> Cursor
-    ensures { result.position ≡ End }
+    ensures { result ≡ End }
 {
-    Cursor {
-        position: Position::End,
-        schedule: [0u8; 48],
-        steps: 0,
-    }
+    Cursor::End
 }
 
 // Whether it is known that nothing is to come any more.
 pub fn is_end(cursor: Cursor) -> bool
-    ensures { result ≡ is_end cursor.position }
+    ensures { result ≡ is_end cursor }
 {
-    let position = cursor.position;
-    match position {
-        Position::Beginning => false,
-        Position::Behind => false,
-        Position::End => true,
-    }
-}
-
-// The number n of bytes, but no more than a cursor has room for.
-pub fn bytes_kept(n: usize) -> usize
-    ensures { result ≡ min n 48 }
-{
-    if 48 < n { 48 } else { n }
+    matches!(cursor, Cursor::End)
 }
 
 // What is after a schedule is yet to come. The schedule need not be of the list; of a longer one 48 bytes tell, since no listed one has
@@ -79,16 +54,11 @@ pub fn behind(schedule: &[u8]) -> Cursor
     ensures { (l : List Schedule) → ((s : Schedule) → Memᴰ s l → length s ≤ 48)
         → from result l ≡ after (some schedule.now) l }
 {
-    let n = bytes_kept(schedule.len());
+    let steps = schedule.len().min(48);
     let mut bytes = [0u8; 48];
-    let mut k = 0;
-    while k < n {
-        bytes[k] = schedule[k];
-        k += 1;
-    }
-    Cursor {
-        position: Position::Behind,
+    bytes[..steps].copy_from_slice(&schedule[..steps]);
+    Cursor::Behind(Steps {
         schedule: bytes,
-        steps: n,
-    }
+        steps,
+    })
 }

@@ -37,7 +37,7 @@ module _ (M : Model) (p : Program) (f : Schedule → Bool) where
   unfolding sought
   to_come_start c e = ap (find f) (sym e)
 
-  pub to_come_end : (c : Cursor) → ToCome c → is_end c.position ≡ true → find f (list_of M p) ≡ none
+  pub to_come_end : (c : Cursor) → ToCome c → is_end c ≡ true → find f (list_of M p) ≡ none
   to_come_end c t e = t ∙ ap (find f) (from_end (sought M false p) c e) ∙ find_empty f
 
 -- a page
@@ -66,7 +66,7 @@ module _ (M : Model) (p : Program) (c : Cursor) (rows rows' : List ℕ) (r : Pag
     short = λ s m. list_room M L p a s (member s m);
   }
 
-  pub page_onward : 0 < length rows / row_size M.need → is_end c.position ≡ false → pages M p false r.cursor < pages M p false c
+  pub page_onward : 0 < length rows / row_size M.need → is_end c ≡ false → pages M p false r.cursor < pages M p false c
   page_onward h e = page_less M.need (failing M p) (sought M false p) c rows rows' r page h e
 
   module _ (f : Schedule → Bool) (t : ToCome M p f c) where

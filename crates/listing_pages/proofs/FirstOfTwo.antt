@@ -1,7 +1,7 @@
 -- The first that passes a test, in a list of two parts: of the first part, or else of the second.
-use mathlib.Core.Path.{◌≡◌, refl, sym, ap, ◌∙◌}
+use mathlib.Core.Path.{◌≡◌, refl, sym, ◌∙◌}
 use mathlib.Core.Bool.{Bool, true, false}
-use mathlib.Core.Option.{Option, none, some, none-ne-some}
+use mathlib.Core.Option.{none, some, none-ne-some}
 use mathlib.Core.List.{List, [], ◌∷◌, ◌++◌}
 use Rattle.spec_schedules.specs.Lists.{find}
 use Rattle.spec_schedules.proofs.Lists.{find_yes, find_no}

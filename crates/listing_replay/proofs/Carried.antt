@@ -5,18 +5,18 @@ use mathlib.Core.List.{List, reverse}
 use native.Mathlib.Omega.{arith}
 use lib.ListN.{length, take}
 use lib.Seq.{length-take-le}
+use Rattle.std.specs.Prelude.{Ok}
 use Rattle.spec_file.specs.Program.{Program}
 use Rattle.spec_file.specs.WellFormed.{WellFormed, all_accesses}
 use Rattle.spec_schedules.specs.Order.{Schedule}
 use Rattle.spec_schedules.specs.System.{Allowed}
 use Rattle.spec_sc.specs.State.{SC, start}
-use Rattle.spec_sc.specs.Graph.{Graph, end_of}
+use Rattle.spec_sc.specs.Graph.{end_of}
 use Rattle.spec_sc.proofs.Rows.{row_at, order_at}
 use Rattle.graph_writer.specs.Notes.{Note, notes, Noted}
 use Rattle.graph_writer.specs.NoteText.{notes_at}
 use Rattle.graph_writer.proofs.NoteGraph.{notes_length, thread_notes, cell_notes, graph_text_notes}
 use Rattle.graph_writer.proofs.NotesHeld.{notes_held}
-use Rattle.machine_replay.specs.declared.replaying.Verdict.TheVariants.{Whole}
 use Rattle.machine_replay.specs.declared.replaying.Run.{Run}
 use Rattle.machine_replay.specs.Carried.{HoldsRun}
 use Rattle.machine_replay.proofs.Verdicts.{verdict_refuses}
@@ -40,7 +40,7 @@ module _ (p : Program) (w : WellFormed p) (s : Schedule) (code lengths : List �
     few_steps : r.steps ≤ 24
     few_steps = omega (arith, held.noted.most, notes_length (take r.steps s) (start p), length-take-le r.steps s held.counted)
 
-    module _ (whole : r.verdict ≡ Whole) where
+    module _ (whole : r.end ≡ Ok tt) where
       log_holds : Noted r.log (notes (start p) s)
       log_holds = subst (λ (z : Schedule). Noted r.log (notes (start p) z)) (held.all whole) held.noted
 
@@ -58,7 +58,7 @@ module _ (p : Program) (w : WellFormed p) (s : Schedule) (code lengths : List �
             text = sym (graph_text_notes p w s allowed);
           }
 
-    pub sequences_replay : Replays Sequential p s (record { verdict = r.verdict; log = r.log; notes = r.steps })
+    pub sequences_replay : Replays Sequential p s (record { end = r.end; log = r.log; notes = r.steps })
     sequences_replay = record {
       answer = verdict_refuses code lengths p s r held;
       few = few_steps;
@@ -68,7 +68,7 @@ module _ (p : Program) (w : WellFormed p) (s : Schedule) (code lengths : List �
 
   -- UNDER TOTAL STORE ORDER
   module _ (few : all_accesses p.threads ≤ 16) (r : QueueRun.Run) (held : QueueCarried.HoldsRun code lengths p s r) where
-    module _ (whole : r.verdict ≡ Whole) where
+    module _ (whole : r.end ≡ Ok tt) where
       stores_holds : Noted r.log (Noting.notes (Queues.start p) s)
       stores_holds = subst (λ (z : Schedule). Noted r.log (Noting.notes (Queues.start p) z)) (held.all whole) held.noted
 
@@ -88,7 +88,7 @@ module _ (p : Program) (w : WellFormed p) (s : Schedule) (code lengths : List �
             text = sym (Here.graph_text_notes p w s allowed);
           }
 
-    pub stores_replay : Replays TotalStoreOrder p s (record { verdict = r.verdict; log = r.log; notes = r.notes })
+    pub stores_replay : Replays TotalStoreOrder p s (record { end = r.end; log = r.log; notes = r.notes })
     stores_replay = record {
       answer = held.answer;
       few = omega (arith, held.notes_counted, notes_16 p few (take r.steps s) held.allowed);

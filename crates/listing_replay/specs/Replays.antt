@@ -1,5 +1,5 @@
 -- What carrying out a schedule leaves, in either memory model: what refuses it and, where nothing does, notes that state its graph.
-use Rattle.std.specs.Prelude.{ℕ, ◌≤◌, ◌≡◌, List, [], reverse, length, get_or}
+use Rattle.std.specs.Prelude.{ℕ, ◌≤◌, ◌≡◌, List, [], reverse, get_or, Ok}
 use Rattle.spec_file.specs.Program.{Program}
 use Rattle.spec_schedules.specs.Order.{Schedule}
 use Rattle.spec_model.specs.Answers.{refuses_from}
@@ -9,7 +9,6 @@ use Rattle.spec_sc.specs.Text.{text_of, graph_text}
 use Rattle.spec_tso.specs.Graph as Stores
 use Rattle.graph_writer.specs.Notes.{Note, Noted}
 use Rattle.graph_writer.specs.NoteText.{reads_in, writes_in, note_frames, notes_at}
-use Rattle.machine_replay.specs.declared.replaying.Verdict.TheVariants.{Whole}
 use Rattle.machine_replay.specs.Carried.{refusal_of}
 use Rattle.listing_model.specs.declared.memory.Model.{Model}
 use Rattle.listing_model.specs.declared.memory.Model.TheVariants.{Sequential, TotalStoreOrder}
@@ -31,11 +30,11 @@ pub record NotesOf (g : Graph) (ns : List Note) : Type 0 where
   pub text : text_of (note_frames ns) ≡ graph_text g
 
 pub record Replays (m : Model) (p : Program) (s : Schedule) (r : Replay) : Type 0 where
-  -- the verdict tells what refuses the schedule
-  pub answer : refusal_of r.verdict ≡ refuses_from (model_of m).system 0 ((model_of m).start p) s
+  -- the end tells what refuses the schedule
+  pub answer : refusal_of r.end ≡ refuses_from (model_of m).system 0 ((model_of m).start p) s
   -- the log has room for the notes
   pub few : r.notes ≤ 24
   -- the notes of a schedule that nothing refuses stand in the log, one behind the other
-  pub noted : r.verdict ≡ Whole → Noted r.log (notes_at r.log r.notes)
+  pub noted : r.end ≡ Ok tt → Noted r.log (notes_at r.log r.notes)
   -- they state its graph
-  pub graph : r.verdict ≡ Whole → NotesOf (graph_in m p s) (notes_at r.log r.notes)
+  pub graph : r.end ≡ Ok tt → NotesOf (graph_in m p s) (notes_at r.log r.notes)

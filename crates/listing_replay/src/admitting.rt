@@ -7,42 +7,32 @@ ghost use Rattle.file_decoder.specs.Compiled.{program_of, answer_of};
 ghost use Rattle.spec_model.specs.OnFile.{admit};
 ghost use Rattle.listing_model.specs.ModelOf.{model_of};
 
-use file_decoder::{Answer, Compiled, Verdict};
+use file_decoder::Compiled;
 use listing_model::Model;
+use spec_file::Refusal;
 use tso_replay::too_many;
 
 // Whether the model turns an accepted program away.
-fn turns_away(model: Model, program: Compiled) -> bool
-    requires { WellFormed (program_of program) }
-    ensures { (model_of model).away (program_of program) ≡ cond result (some (41, 0)) none }
+fn turns_away(model: Model, program: &Compiled) -> bool
+    requires { WellFormed (program_of program.now) }
+    ensures { (model_of model).away (program_of program.now) ≡ cond result (some (41, 0)) none }
 {
     match model {
         Model::Sequential => false,
-        Model::TotalStoreOrder => {
-            let code = program.code;
-            let lengths = program.lengths;
-            too_many(&code, &lengths, program.threads)
-        }
+        Model::TotalStoreOrder => too_many(program),
     }
 }
 
 // The program of a file that the model lists, or what refuses the file.
-pub fn admitted(model: Model, file: &[u8]) -> Answer
+pub fn admitted(model: Model, file: &[u8]) -> Result<Compiled, Refusal>
     ensures { answer_of result ≡ admit (model_of model) (decode file.now) }
 {
-    let a = file_decoder::decode(file);
-    let v = a.verdict;
-    match v {
-        Verdict::Refused(n, k) => a,
-        Verdict::Accepted => {
-            let p = a.program;
-            if turns_away(model, p) {
-                return Answer {
-                    verdict: Verdict::Refused(41, 0),
-                    program: p,
-                };
-            }
-            a
-        }
+    let program = file_decoder::decode(file)?;
+    if turns_away(model, &program) {
+        return Err(Refusal {
+            number: 41,
+            place: 0,
+        });
     }
+    Ok(program)
 }

@@ -6,12 +6,13 @@ ghost use Rattle.listing_replay.specs.Replays.{Replays};
 
 use file_decoder::Compiled;
 use listing_model::Model;
-use machine_replay::Verdict;
+use spec_file::Refusal;
 
-// The verdict on a schedule, and notes of what its steps read and wrote: as many as `notes` stand in front of the log.
+// Whether a schedule goes through whole or what refuses it, and notes of what its steps read and wrote: as many as `notes` stand in front of
+// the log.
 #[derive(Clone, Copy)]
 pub struct Replay {
-    pub verdict: Verdict,
+    pub end: Result<(), Refusal>,
     pub log: [u8; 192],
     pub notes: usize,
 }
@@ -21,27 +22,22 @@ pub fn replayed(model: Model, program: Compiled, schedule: &[u8]) -> Replay
     requires { Admitted (model_of model) (program_of program) }
     ensures { Replays model (program_of program) schedule.now result }
 {
-    let code = program.code;
-    let lengths = program.lengths;
-    let starting = program.starting;
     match model {
         Model::Sequential => {
-            let r = machine_replay::replayed(&code, &lengths, program.threads, starting, schedule);
-            let v = r.verdict;
+            let r = machine_replay::replayed(&program, schedule);
             let log = r.log;
             Replay {
-                verdict: v,
-                log: log,
+                end: r.end,
+                log,
                 notes: r.steps,
             }
         }
         Model::TotalStoreOrder => {
-            let r = tso_replay::replayed(&code, &lengths, program.threads, starting, schedule);
-            let v = r.verdict;
+            let r = tso_replay::replayed(&program, schedule);
             let log = r.log;
             Replay {
-                verdict: v,
-                log: log,
+                end: r.end,
+                log,
                 notes: r.notes,
             }
         }

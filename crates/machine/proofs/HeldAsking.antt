@@ -1,14 +1,15 @@
 -- What may be asked of a state, read off the machine: who may step, whether all have ended, whether an assertion failed.
-use Prim.Native.Nat.{ℕ, ◌+◌, ◌<◌, ◌≤◌}
+use Prim.Native.Nat.{ℕ, suc, ◌+◌, ◌<◌, ◌≤◌}
 use native.Mathlib.Omega.{arith}
 use native.Mathlib.Decide.{dec_lt, ℕ_discrete}
 use mathlib.Core.Path.{◌≡◌, refl, sym, ap, subst, ◌∙◌}
-use mathlib.Core.Bool.{Bool, true, false, not, ◌&&◌, true≢false}
-use mathlib.Core.List.{List}
+use mathlib.Core.Bool.{Bool, true, false, not, ◌&&◌, ◌||◌, true≢false}
+use mathlib.Core.List.{List, [], ◌∷◌}
 use lib.Dec.{ltb}
-use lib.ListN.{get_or}
+use lib.ListN.{length, get_or}
 use borrow.Author.Tests.{lt-ltb, le-ltb, not-true}
-use Rattle.spec_schedules.specs.Lists.{range}
+use Rattle.std.specs.List.{list_any, list_all, range_with_len}
+use Rattle.spec_schedules.specs.Lists.{any, all, range}
 use Rattle.spec_schedules.specs.System.{ended}
 use Rattle.spec_schedules.proofs.Lists.{any_of, any_yes, all_of, all_at, in_range_lem, of_range}
 use Rattle.spec_schedules.proofs.Runs.{ended_of, ended_none}
@@ -75,17 +76,37 @@ module _ (lengths : List ℕ) (m : Machine) where
   pub enabled_nobody : (t : ℕ) → 6 ≤ t → enabled_by lengths m t ≡ false
   enabled_nobody t h = ap (λ (b : Bool). b && ltb (thread_at m t).at (get_or lengths t 0)) (le-ltb t 6 h)
 
-  pub ended_not : (t : ℕ) → t < 6 → (thread_at m t).at < get_or lengths t 0 → ended_by lengths m ≡ false
-  ended_not t h l = go (ended_by lengths m) refl
-    where
-      go : (b : Bool) → ended_by lengths m ≡ b → ended_by lengths m ≡ false
-      go true e = absurd (true≢false (sym (all_at (λ u. not (enabled_by lengths m u)) (range 0 6) t e (in_range_lem 0 6 t (omega arith) h)) ∙ ap not (sym (enabled_named t t refl h) ∙ lt-ltb (thread_at m t).at (get_or lengths t 0) l)))
-      go false e = e
+-- ---- what the library's any and all answer
+or_any : (b r : Bool) → (b || r) ≡ (elim b [ true ↦ true | false ↦ r ])
+or_any true r = refl
+or_any false r = refl
 
-  pub ended_yes : ((t : ℕ) → t < 6 → get_or lengths t 0 ≤ (thread_at m t).at) → ended_by lengths m ≡ true
-  ended_yes h = all_of (λ u. not (enabled_by lengths m u)) (range 0 6) (λ t k.
-      let b = (of_range 0 6 t k).1 in
-      ap not (sym (enabled_named t t refl b) ∙ le-ltb (thread_at m t).at (get_or lengths t 0) (h t b)))
+and_all : (b r : Bool) → (b && r) ≡ (elim b [ true ↦ r | false ↦ false ])
+and_all true r = refl
+and_all false r = refl
+
+all_same : {A : Type 0} (f : A → Bool) (xs : List A) → list_all f xs ≡ all f xs
+unfolding all
+all_same f [] = refl
+all_same f (x ∷ xs) = ap (λ (r : Bool). f x && r) (all_same f xs) ∙ and_all (f x) (all f xs)
+
+-- of a list's members, or by their numbers, which are a more
+any_numbered : {A : Type 0} (f : A → Bool) (d : A) (g : ℕ → A) (xs : List A) (a : ℕ) → ((i : ℕ) → i < length xs → g (a + i) ≡ get_or xs i d) → list_any f xs ≡ any (λ t. f (g t)) (range a (length xs))
+unfolding any range
+any_numbered f d g [] a h = refl
+any_numbered f d g (x ∷ xs) a h =
+    let e : g a ≡ x = ap g (let z : a ≡ a + 0 = omega arith in z) ∙ h 0 (omega arith) in
+    ap (λ (r : Bool). f x || r) (any_numbered f d g xs (suc a) (λ i b. ap g (let z : suc a + i ≡ a + suc i = omega arith in z) ∙ h (suc i) (omega (arith, b))))
+    ∙ or_any (f x) _ ∙ ap (λ (b : Bool). elim b [ true ↦ true | false ↦ any (λ t. f (g t)) (range (suc a) (length xs)) ]) (ap f (sym e))
+
+pub some_listed : (threads : List ThreadState) → length threads ≡ 6 → list_any (λ k. k.failed) threads ≡ some_failed threads
+some_listed threads e =
+    any_numbered (λ k. k.failed) idle (λ t. get_or threads t idle) threads 0 (λ i b. ap (λ (j : ℕ). get_or threads j idle) (let z : 0 + i ≡ i = omega arith in z))
+    ∙ ap (λ (n : ℕ). any (λ t. (get_or threads t idle).failed) (range 0 n)) e
+
+pub ended_listed : (lengths : List ℕ) (m : Machine) → list_all (λ t. not (enabled_by lengths m t)) (range_with_len 0 6) ≡ ended_by lengths m
+unfolding range
+ended_listed lengths m = all_same (λ t. not (enabled_by lengths m t)) (range_with_len 0 6)
 
 pub some_yes : (threads : List ThreadState) (t : ℕ) → t < 6 → (get_or threads t idle).failed ≡ true → some_failed threads ≡ true
 some_yes threads t h e = any_of (λ u. (get_or threads u idle).failed) (range 0 6) t (in_range_lem 0 6 t (omega arith) h) e

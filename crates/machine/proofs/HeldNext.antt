@@ -3,7 +3,7 @@ use Prim.Native.Nat.{ℕ, suc, ◌+◌, ◌*◌, ◌<◌}
 use native.Mathlib.Omega.{arith}
 use native.Mathlib.Decide.{dec_lt}
 use mathlib.Core.Path.{◌≡◌, sym, ap, subst, ◌∙◌}
-use mathlib.Core.Bool.{true, cond}
+use mathlib.Core.Bool.{true}
 use mathlib.Core.List.{List, ◌∷◌}
 use lib.ListN.{get_or, drop, get_or-eq_default}
 use borrow.Author.Tests.{ltb-true}
@@ -65,8 +65,8 @@ module _ (code lengths : List ℕ) (m : Machine) (σ : State) (t : ℕ) (held : 
     pub next_value : (cell_of σ (place σ t)).value ≡ get_or m.memory a.location 0
     next_value = held_value (place σ t) ∙ ap (λ (l : ℕ). get_or m.memory l 0) next_place
 
-    pub next_wrote : cond (writes σ t) 1 0 ≡ a.writes
+    pub next_wrote : writes σ t ≡ a.writes
     unfolding writes puts
     next_wrote =
-        ap (λ (j : List Instruction). cond (given (first_puts h.registers j (cell_of σ (place σ t)).value)) 1 0) next_rest
-        ∙ ap (λ (v : ℕ). cond (given (first_puts h.registers (x ∷ is) v)) 1 0) next_value ∙ next_meets.wrote
+        ap (λ (j : List Instruction). given (first_puts h.registers j (cell_of σ (place σ t)).value)) next_rest
+        ∙ ap (λ (v : ℕ). given (first_puts h.registers (x ∷ is) v)) next_value ∙ next_meets.wrote

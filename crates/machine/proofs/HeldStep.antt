@@ -5,13 +5,13 @@ use native.Mathlib.Decide.{ℕ_discrete}
 use native.Mathlib.Nat.{mod-eq_of_lt}
 use mathlib.Core.Path.{◌≡◌, refl, sym, ap, subst, ◌∙◌}
 use mathlib.Core.Logic.{inl, inr, ◌≢◌}
-use mathlib.Core.Bool.{Bool, true, false, cond, true≢false}
+use mathlib.Core.Bool.{Bool, true, false, cond}
 use mathlib.Core.Option.{none, some}
 use mathlib.Core.List.{List, [], ◌∷◌}
 use lib.Dec.{eqb}
 use lib.ListN.{length, get_or, set, drop, length-drop, length-set}
 use lib.Seq.{get_or-set_other, get_or-set_same, set-get_or}
-use borrow.Author.Tests.{eq-eqb, ne_eqb, eqb-true}
+use mir.Val.{bool_byte}
 use Rattle.spec_file.specs.declared.instruction.Instruction.{Instruction}
 use Rattle.file_rows.specs.Rows.{instruction_at, thread_code}
 use Rattle.machine_access.specs.declared.accessing.Access.{Access}
@@ -25,14 +25,19 @@ use Rattle.spec_sc.specs.State.{Thread, Cell, State, thread_of, cell_of, place, 
 use Rattle.spec_sc.specs.Actions.{writes}
 use Rattle.graph_writer.specs.Notes.{note, note_bytes}
 use Rattle.graph_writer.proofs.NoteGraph.{noted_location, noted_wrote}
-use Rattle.graph_writer.proofs.NotesHeld.{byte_location, byte_wrote}
+use Rattle.graph_writer.proofs.NotesHeld.{flag, byte_location, byte_wrote}
 use Rattle.machine_access.specs.CarriedOut.{access_of, local_of}
-use Rattle.machine.specs.Held.{idle, unwritten, thread_at, last_at, event_of, HoldsThread, Holds, HoldsStep, HoldsMoved, thread_after, whole}
+use Rattle.machine.specs.Held.{idle, unwritten, thread_at, last_at, event_of, HoldsThread, Holds, HoldsStep, HoldsMoved, whole}
 use Rattle.spec_sc.proofs.Access.{Settled, settle_law}
 use Rattle.spec_sc.proofs.Steps.{enabled_small, enabled_range, cell_other, step_threads, step_cells}
 use Rattle.spec_sc.proofs.Change.{thread_cases, noted_done, wrote_own, Change, kept, wrote, change}
 use Rattle.machine_access.proofs.HeldAccess.{Meets}
 use Rattle.machine.proofs.HeldNext.{next_rest, next_meets, next_place, next_value, next_wrote}
+
+-- a flag as a byte
+pub byte_of : (b : Bool) → bool_byte b ≡ cond b 1 0
+byte_of true = refl
+byte_of false = refl
 
 -- settled code of which something is left begins with an access
 pub settled_pending : (h : Local) (c : List Instruction) (k : ℕ) → Settled h → h.rest ≡ drop k c → k < length c → pending h ≡ true
@@ -70,7 +75,7 @@ module _ (code lengths : List ℕ) (m : Machine) (σ : State) (t : ℕ) (held : 
   found : (cell_of σ (place σ t)).value ≡ get_or m.memory a.location 0
   found = next_value code lengths m σ t held ok x a ex ea
 
-  puts_here : puts h.local (cell_of σ (place σ t)).value ≡ cond (eqb a.writes 1) (some a.value) none
+  puts_here : puts h.local (cell_of σ (place σ t)).value ≡ cond a.writes (some a.value) none
   unfolding puts
   puts_here = ap (λ (j : List Instruction). first_puts h.local.registers j (cell_of σ (place σ t)).value) rest ∙ ap (first_puts h.local.registers (x ∷ is)) found ∙ meets.puts
 
@@ -127,26 +132,26 @@ module _ (code lengths : List ℕ) (m : Machine) (σ : State) (t : ℕ) (held : 
     }
 
     -- the access wrote nothing
-    still : (a.writes ≡ 1 → ⊥) → (l : ℕ) → cell_of (step σ t) l ≡ cell_of σ l
+    still : a.writes ≡ false → (l : ℕ) → cell_of (step σ t) l ≡ cell_of σ l
     still n l = go (change σ t (omega (arith, held.eight)) l)
       where
         go : Change σ t l → cell_of (step σ t) l ≡ cell_of σ l
         go (kept q) = q
-        go (wrote q v e w y) = absurd (let z : some v ≡ none = sym e ∙ puts_here ∙ ap (λ (b : Bool). cond b (some a.value) none) (ne_eqb a.writes 1 n) in let y : ◌≡◌ {A = ℕ} 0 1 = cc in omega arith)
+        go (wrote q v e w y) = let z : some v ≡ none = sym e ∙ puts_here ∙ ap (λ (b : Bool). cond b (some a.value) none) n in cc
 
-    pub holds_still : (a.writes ≡ 1 → ⊥) → m'.memory ≡ m.memory → m'.last ≡ m.last → Holds code lengths m' (step σ t)
+    pub holds_still : a.writes ≡ false → m'.memory ≡ m.memory → m'.last ≡ m.last → Holds code lengths m' (step σ t)
     holds_still n em el = behind_all (ap length em ∙ held.sizes.1) (ap length el ∙ held.sizes.2)
         (λ l b. ap (λ (c : Cell). c.value) (still n l) ∙ held.values l b ∙ ap (λ (j : List ℕ). get_or j l 0) (sym em))
         (λ l b. ap (λ (c : Cell). latest c.writes) (still n l) ∙ held.sources l b ∙ ap (λ (j : List LastWrite). event_of (get_or j l unwritten)) (sym el))
 
     -- the access wrote at location l
-    module _ (l : ℕ) (el : l ≡ a.location) (w : a.writes ≡ 1)
+    module _ (l : ℕ) (el : l ≡ a.location) (w : a.writes ≡ true)
         (em : m'.memory ≡ set m.memory l a.value) (es : m'.last ≡ set m.last l (record { thread = t; number = (thread_at m t).done })) where
       here : place σ t ≡ l
       here = at_place ∙ sym el
 
       puts_it : puts h.local (cell_of σ (place σ t)).value ≡ some a.value
-      puts_it = puts_here ∙ ap (λ (b : Bool). cond b (some a.value) none) (eq-eqb a.writes 1 w)
+      puts_it = puts_here ∙ ap (λ (b : Bool). cond b (some a.value) none) w
 
       value_at : (j : ℕ) → j < 8 → (cell_of (step σ t) j).value ≡ get_or m'.memory j 0
       value_at j b = go (ℕ_discrete j (place σ t))
@@ -179,16 +184,16 @@ module _ (code lengths : List ℕ) (m : Machine) (σ : State) (t : ℕ) (held : 
       holds_written = behind_all (ap length em ∙ length-set m.memory l a.value ∙ held.sizes.1) (ap length es ∙ length-set m.last l _ ∙ held.sizes.2) value_at last_at_lem
 
   -- ---- the note
-  wrote_here : cond (writes σ t) 1 0 ≡ a.writes
+  wrote_here : writes σ t ≡ a.writes
   wrote_here = next_wrote code lengths m σ t held ok x a ex ea
 
   pub note_behind : (e : LastWrite) → e ≡ last_at m a.location
-      → (t ∷ (thread_at m t).done ∷ a.location ∷ a.reads ∷ e.thread ∷ e.number ∷ a.writes ∷ 0 ∷ []) ≡ note_bytes (note σ t)
+      → (t ∷ (thread_at m t).done ∷ a.location ∷ cond a.reads 1 0 ∷ e.thread ∷ e.number ∷ cond a.writes 1 0 ∷ 0 ∷ []) ≡ note_bytes (note σ t)
   unfolding note_bytes note takes
   note_behind e q =
       let source : latest (cell_of σ (place σ t)).writes ≡ event_of e = held.sources (place σ t) near ∙ ap (λ (l : ℕ). event_of (last_at m l)) at_place ∙ ap event_of (sym q) in
-      let reads : cond (takes h.local) 1 0 ≡ a.reads = ap (λ (j : List Instruction). cond (first_takes j) 1 0) rest ∙ meets.reads in
-      sym (λ i. t ∷ own.done i ∷ at_place i ∷ reads i ∷ (source i).0 ∷ (source i).1 ∷ wrote_here i ∷ 0 ∷ [])
+      let reads : takes h.local ≡ a.reads = ap first_takes rest ∙ meets.reads in
+      sym (λ i. t ∷ own.done i ∷ at_place i ∷ cond (reads i) 1 0 ∷ (source i).0 ∷ (source i).1 ∷ cond (wrote_here i) 1 0 ∷ 0 ∷ [])
 
 -- ---- the code's step: what its thread u, which stands so, does with this memory; a its access, k the thread behind it
 pub record Acted (code lengths : List ℕ) (thread : ThreadState) (memory : List ℕ) (u : ℕ) (a : Access) (k : ThreadState) : Type 0 where
@@ -201,12 +206,9 @@ pub record Acted (code lengths : List ℕ) (thread : ThreadState) (memory : List
 -- what it gives back; the code names a location l by its remainder
 abbrev pub after_of : Access → ThreadState → List ℕ → ℕ → After
 after_of a k memory l = record {
-  registers = k.registers;
-  at = k.at;
+  thread = k;
+  memory = set memory (l % 8) (cond a.writes a.value (get_or memory (l % 8) 0));
   place = l % 8;
-  memory = set memory (l % 8) (cond (eqb a.writes 1) a.value (get_or memory (l % 8) 0));
-  done = k.done;
-  failed = k.failed;
   location = a.location;
   reads = a.reads;
   writes = a.writes;
@@ -226,20 +228,20 @@ module _ (code lengths : List ℕ) (m : Machine) (σ : State) (t : ℕ) (held : 
       ap (λ (v : ℕ). v % 8) el ∙ mod-eq_of_lt (omega (arith, q, near))
 
   holds_behind : Holds code lengths (whole m t t after).machine (step σ t)
-  holds_behind = go (eqb a.writes 1) refl
+  holds_behind = go a.writes refl
     where
       entry : Bool → LastWrite
       entry b = cond b (record { thread = t; number = (thread_at m t).done }) (last_at m (l % 8))
 
-      go : (b : Bool) → eqb a.writes 1 ≡ b → Holds code lengths (whole m t t after).machine (step σ t)
+      go : (b : Bool) → a.writes ≡ b → Holds code lengths (whole m t t after).machine (step σ t)
       go true q =
-          holds_written code lengths m σ t held ok near x a (thread_after after) acts.left refl acts.access acts.local acts.later acts.counted
-          (whole m t t after).machine refl (l % 8) own_location (eqb-true a.writes 1 q)
+          holds_written code lengths m σ t held ok near x a k acts.left refl acts.access acts.local acts.later acts.counted
+          (whole m t t after).machine refl (l % 8) own_location q
           (ap (λ (b : Bool). set m.memory (l % 8) (cond b a.value (get_or m.memory (l % 8) 0))) q)
           (ap (λ (b : Bool). set m.last (l % 8) (entry b)) q)
       go false q =
-          holds_still code lengths m σ t held ok near x a (thread_after after) acts.left refl acts.access acts.local acts.later acts.counted
-          (whole m t t after).machine refl (λ e. true≢false (sym (eq-eqb a.writes 1 e) ∙ q))
+          holds_still code lengths m σ t held ok near x a k acts.left refl acts.access acts.local acts.later acts.counted
+          (whole m t t after).machine refl q
           (ap (λ (b : Bool). set m.memory (l % 8) (cond b a.value (get_or m.memory (l % 8) 0))) q ∙ set-get_or m.memory (l % 8) 0)
           (ap (λ (b : Bool). set m.last (l % 8) (entry b)) q ∙ set-get_or m.last (l % 8) unwritten)
 
@@ -270,12 +272,12 @@ stored_whole code lengths m t u a eu acts τ held ok near =
 
 -- to one who keeps no last writes and no note
 abbrev pub moved_of : After → Moved
-moved_of a = record { thread = thread_after a; memory = a.memory; location = a.location; wrote = eqb a.writes 1 }
+moved_of a = record { thread = a.thread; memory = a.memory; location = a.location; wrote = a.writes }
 
 pub moved_holds : (code lengths : List ℕ) (m : Machine) (σ : State) (t : ℕ) (a : After) → HoldsStep code lengths σ t (whole m t t a) → HoldsMoved code lengths m σ t (moved_of a)
 moved_holds code lengths m σ t a s = record {
   last = (whole m t t a).machine.last;
   holds = s.holds;
   location = ap (λ (bs : List ℕ). get_or bs 2 0) s.noted ∙ byte_location (note σ t) ∙ noted_location σ t;
-  wrote = ap (λ (bs : List ℕ). eqb (get_or bs 6 0) 1) s.noted ∙ byte_wrote (note σ t) ∙ noted_wrote σ t;
+  wrote = sym (flag a.writes) ∙ ap (λ (bs : List ℕ). eqb (get_or bs 6 0) 1) s.noted ∙ byte_wrote (note σ t) ∙ noted_wrote σ t;
 }

@@ -3,8 +3,6 @@
 pub mod HeldAsking
 -- a thread's next access
 pub mod HeldNext
--- a list whose values are chosen one after the other
-pub mod Chosen
 -- a step
 pub mod HeldStep
 -- the state before the first step

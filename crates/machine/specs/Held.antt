@@ -1,5 +1,5 @@
 -- How the machine's arrays hold a state of the specification. What each thread read is not in them: it stands in the notes.
-use Rattle.std.specs.Prelude.{ℕ, ◌<◌, ◌≤◌, ◌≡◌, true, false, cond, List, [], ◌∷◌, eqb, length, get_or, set, drop}
+use Rattle.std.specs.Prelude.{ℕ, ◌<◌, ◌≤◌, ◌≡◌, true, false, cond, List, [], ◌∷◌, length, get_or, set, drop}
 use Rattle.spec_file.specs.declared.instruction.Instruction.{Instruction}
 use Rattle.spec_file.specs.Program.{Program}
 use Rattle.spec_file.specs.WellFormed.{WellFormed}
@@ -87,21 +87,18 @@ pub record HoldsMoved (code lengths : List ℕ) (m : Machine) (σ : State) (t : 
   pub location : a.location ≡ place σ t
   pub wrote : a.wrote ≡ writes σ t
 
--- the thread that a step leaves where it gives registers and memory back whole; the last write of its place, where e was; and its note
-abbrev pub thread_after : After → ThreadState
-thread_after a = record { registers = a.registers; at = a.at; done = a.done; failed = a.failed }
-
+-- the last write of a step's place, where e was, and the step's note
 abbrev pub last_after : ℕ → ℕ → LastWrite → After → LastWrite
-last_after t number e a = cond (eqb a.writes 1) (record { thread = t; number = number }) e
+last_after t number e a = cond a.writes (record { thread = t; number = number }) e
 
 abbrev pub note_after : ℕ → ℕ → LastWrite → After → List ℕ
-note_after t number e a = t ∷ number ∷ a.location ∷ a.reads ∷ e.thread ∷ e.number ∷ a.writes ∷ 0 ∷ []
+note_after t number e a = t ∷ number ∷ a.location ∷ cond a.reads 1 0 ∷ e.thread ∷ e.number ∷ cond a.writes 1 0 ∷ 0 ∷ []
 
 -- the machine with these behind a step of thread t, which is the u-th of the array
 abbrev pub whole : Machine → ℕ → ℕ → After → Stepped
 whole m u t a = record {
   machine = record {
-    threads = set m.threads u (thread_after a);
+    threads = set m.threads u a.thread;
     memory = a.memory;
     last = set m.last a.place (last_after t (thread_at m u).done (last_at m a.place) a);
   };

@@ -13,4 +13,4 @@ mod asking;
 pub use asking::{enabled, ended_all, fails, some_failed};
 pub use starting::started;
 pub use state::{LastWrite, Machine};
-pub use stepping::{After, Moved, Stepped, after_step, last_behind, lean_step, step};
+pub use stepping::{After, Moved, Stepped, after_step, last_behind, lean_step, note_of, step};

@@ -5,47 +5,38 @@ ghost use Rattle.spec_sc.specs.State.{start};
 ghost use Rattle.machine.specs.Held.{Loaded, HoldsAt, Holds};
 
 use crate::state::{LastWrite, Machine};
-use file_rows::Code;
+use file_decoder::Compiled;
 use machine_access::{ThreadState, settle};
 
 // Thread t before its first step; one that does not exist stands at its end.
-fn opened(code: &Code, lengths: &[usize; 6], threads: usize, t: usize) -> ThreadState
-    requires { (t < 6) × (t < threads → get_or lengths.now t 0 ≤ 16) }
-    ensures { (p : Program) → Loaded code.now lengths.now threads p
-        → HoldsAt code.now lengths.now result (start p) t }
+fn opened(program: &Compiled, t: usize) -> ThreadState
+    requires { (t < 6) × (t < program.now.threads → get_or program.now.lengths t 0 ≤ 16) }
+    ensures { (p : Program) → Loaded program.now.code program.now.lengths program.now.threads p
+        → HoldsAt program.now.code program.now.lengths result (start p) t }
 {
-    let n = lengths[t];
-    if t < threads {
-        return settle(code, t, n, 0, [0u32; 4], 0);
+    let n = program.lengths[t];
+    if t < program.threads {
+        return settle(&program.code, t, n, 0, [0u32; 4], 0);
     }
     ThreadState {
-        registers: [0u32; 4],
         at: n,
-        done: 0,
-        failed: false,
+        ..ThreadState::default()
     }
 }
 
-// The state of the program in these rows, with these starting values.
-pub fn started(code: &Code, lengths: &[usize; 6], threads: usize, starting: [u32; 8]) -> Machine
-    requires { (p : Program) × Loaded code.now lengths.now threads p }
-    ensures { (result.memory ≡ starting) × ((p : Program) → Loaded code.now lengths.now threads p
-        → starting ≡ initial p → Holds code.now lengths.now result (start p)) }
+// The program's state before the first step.
+pub fn started(program: &Compiled) -> Machine
+    requires { (p : Program) × Loaded program.now.code program.now.lengths program.now.threads p }
+    ensures { (result.memory ≡ program.now.starting) × ((p : Program) → Loaded program.now.code program.now.lengths program.now.threads p
+        → program.now.starting ≡ initial p → Holds program.now.code program.now.lengths result (start p)) }
 {
-    let mut all = [ThreadState {
-        registers: [0u32; 4],
-        at: 0,
-        done: 0,
-        failed: false,
-    }; 6];
-    let mut t = 0;
-    while t < 6 {
-        all[t] = opened(code, lengths, threads, t);
-        t += 1;
+    let mut all = [ThreadState::default(); 6];
+    for t in 0..6 {
+        all[t] = opened(program, t);
     }
     Machine {
         threads: all,
-        memory: starting,
+        memory: program.starting,
         last: [LastWrite {
             thread: 255,
             number: 255,

@@ -1,26 +1,24 @@
 // A step: a thread's next access, then its instructions up to the next one.
-ghost use Rattle.std.specs.Prelude.{◌≡◌, true, cond, ◌<◌, eqb, set};
+ghost use Rattle.std.specs.Prelude.{◌≡◌, true, cond, ◌<◌, set};
 ghost use Rattle.spec_sc.specs.State.{State, place, enabled};
-ghost use Rattle.machine.specs.Held.{thread_at, Holds, ReadyThread, Ready, HoldsStep, HoldsMoved, whole};
+ghost use Rattle.machine.specs.Held.{thread_at, Holds, ReadyThread, Ready, HoldsStep, HoldsMoved, note_after, whole};
 
 use crate::state::{LastWrite, Machine};
-use file_lines::wide;
-use file_rows::Code;
+use file_decoder::Compiled;
+use file_lines::{choose, wide};
 use machine_access::{ThreadState, accessed_at, settled};
+use machine_local::with_at;
 
-// What a step gives back: its thread's registers and memory whole, and the rest of its thread; its place, and whether it reads and writes
-// (1 or 0). The last writes are its caller's: one of them is read and stored where they lie.
+// What a step gives back: its thread and memory whole; its location, by its number and as its place, and whether it reads and writes. The
+// last writes are its caller's: one of them is read and stored where they lie.
 #[derive(Clone, Copy)]
 pub struct After {
-    pub registers: [u32; 4],
-    pub at: usize,
-    pub place: usize,
+    pub thread: ThreadState,
     pub memory: [u32; 8],
-    pub done: u8,
-    pub failed: bool,
+    pub place: usize,
     pub location: u8,
-    pub reads: u8,
-    pub writes: u8,
+    pub reads: bool,
+    pub writes: bool,
 }
 
 // What a step gives back to one who keeps no last writes: its thread with the registers, and memory, whole; its location, and whether it
@@ -40,88 +38,61 @@ pub struct Stepped {
     pub note: [u8; 8],
 }
 
-// The value at a place behind an access that wrote v (1) or nothing (0), where x stood.
-fn value_behind(writes: u8, v: u32, x: u32) -> u32
-    ensures { result ≡ cond (eqb writes 1) v x }
+// The last write of a place behind thread t's access `number`, which wrote or did not, where e was.
+pub fn last_behind(writes: bool, t: u8, number: u8, e: LastWrite) -> LastWrite
+    ensures { result ≡ cond writes (record { thread = t; number = number }) e }
 {
-    if writes == 1 {
-        return v;
-    }
-    x
+    choose(writes, LastWrite { thread: t, number }, e)
 }
 
-// The last write of a place behind thread t's access `number`, which wrote (1) or did not (0), where e was.
-pub fn last_behind(writes: u8, t: u8, number: u8, e: LastWrite) -> LastWrite
-    ensures { result ≡ cond (eqb writes 1) (record { thread = t; number = number }) e }
+// The note of thread t's access `number`, whose location's last write was e.
+pub fn note_of(t: u8, number: u8, e: LastWrite, a: After) -> [u8; 8]
+    ensures { result ≡ note_after t number e a }
 {
-    if writes == 1 {
-        return LastWrite {
-            thread: t,
-            number: number,
-        };
-    }
-    e
-}
-
-// v where j is i, else x.
-fn value_or(j: u32, i: u32, v: u32, x: u32) -> u32
-    ensures { result ≡ cond (eqb j i) v x }
-{
-    if j == i {
-        return v;
-    }
-    x
-}
-
-// Memory with v at k; unchanged where there is no such location. Each value is chosen by a comparison, so that memory moves in wide
-// registers and no store of one value waits in front of a load of many.
-fn with_value(memory: [u32; 8], k: usize, v: u32) -> [u32; 8]
-    ensures { result ≡ set memory k v }
-{
-    if 8 <= k {
-        return memory;
-    }
-    let j = k as u32;
-    let mut values = memory;
-    let mut i = 0u32;
-    while i < 8 {
-        let n = i as usize;
-        values[n] = value_or(j, i, v, memory[n]);
-        i += 1;
-    }
-    values
+    [
+        t,
+        number,
+        a.location,
+        u8::from(a.reads),
+        e.thread,
+        e.number,
+        u8::from(a.writes),
+        0,
+    ]
 }
 
 // A step of thread t where the thread stands so: its registers and memory are taken by value and given back whole.
-pub fn after_step(
-    code: &Code,
-    lengths: &[usize; 6],
-    thread: ThreadState,
-    memory: [u32; 8],
-    t: u8,
-) -> After
-    requires { ReadyThread lengths.now thread t }
+pub fn after_step(program: &Compiled, thread: ThreadState, memory: [u32; 8], t: u8) -> After
+    requires { ReadyThread program.now.lengths thread t }
     ensures within { result.place < 8 }
     ensures step { (m : Machine) (σ : State) → thread_at m t ≡ thread → m.memory ≡ memory
-        → Holds code.now lengths.now m σ → enabled σ t ≡ true → place σ t < 8
-        → HoldsStep code.now lengths.now σ t (whole m t t result) }
+        → Holds program.now.code program.now.lengths m σ → enabled σ t ≡ true → place σ t < 8
+        → HoldsStep program.now.code program.now.lengths σ t (whole m t t result) }
 {
     let u = wide(t);
     let at = thread.at;
-    let registers = thread.registers;
-    let a = accessed_at(code, u * 16 + at, registers, memory);
-    let rs = a.registers;
-    let k = settled(code, u, lengths[u], at + 1, rs, thread.done + 1);
-    let ks = k.registers;
+    let a = accessed_at(&program.code, u * 16 + at, thread.registers, memory);
+    let k = settled(
+        &program.code,
+        u,
+        program.lengths[u],
+        at + 1,
+        a.registers,
+        thread.done + 1,
+    );
     let l = wide(a.location) % 8;
-    let values = with_value(memory, l, value_behind(a.writes, a.value, memory[l]));
+    let values = with_at(memory, l, choose(a.writes, a.value, memory[l]));
+    // Field by field, so that the thread is not moved through memory: a step that moves it whole takes three hundredths longer.
+    let rs = k.registers;
     After {
-        registers: ks,
-        at: k.at,
-        place: l,
+        thread: ThreadState {
+            registers: rs,
+            at: k.at,
+            done: k.done,
+            failed: k.failed,
+        },
         memory: values,
-        done: k.done,
-        failed: k.failed,
+        place: l,
         location: a.location,
         reads: a.reads,
         writes: a.writes,
@@ -129,63 +100,40 @@ pub fn after_step(
 }
 
 // A step of thread t for a caller that keeps no last writes and no note.
-pub fn lean_step(
-    code: &Code,
-    lengths: &[usize; 6],
-    thread: ThreadState,
-    memory: [u32; 8],
-    t: u8,
-) -> Moved
-    requires { ReadyThread lengths.now thread t }
+pub fn lean_step(program: &Compiled, thread: ThreadState, memory: [u32; 8], t: u8) -> Moved
+    requires { ReadyThread program.now.lengths thread t }
     ensures { (m : Machine) (σ : State) → thread_at m t ≡ thread → m.memory ≡ memory
-        → Holds code.now lengths.now m σ → enabled σ t ≡ true → place σ t < 8
-        → HoldsMoved code.now lengths.now m σ t result }
+        → Holds program.now.code program.now.lengths m σ → enabled σ t ≡ true → place σ t < 8
+        → HoldsMoved program.now.code program.now.lengths m σ t result }
 {
-    let a = after_step(code, lengths, thread, memory, t);
-    let registers = a.registers;
-    let values = a.memory;
+    let a = after_step(program, thread, memory, t);
+    let memory = a.memory;
     Moved {
-        thread: ThreadState {
-            registers: registers,
-            at: a.at,
-            done: a.done,
-            failed: a.failed,
-        },
-        memory: values,
+        thread: a.thread,
+        memory,
         location: a.location,
-        wrote: a.writes == 1,
+        wrote: a.writes,
     }
 }
 
 // A step of thread t, which has not ended.
-pub fn step(code: &Code, lengths: &[usize; 6], m: Machine, t: u8) -> Stepped
-    requires { Ready lengths.now m t }
-    ensures { (σ : State) → Holds code.now lengths.now m σ → enabled σ t ≡ true → place σ t < 8
-        → HoldsStep code.now lengths.now σ t result }
+pub fn step(program: &Compiled, m: Machine, t: u8) -> Stepped
+    requires { Ready program.now.lengths m t }
+    ensures { (σ : State) → Holds program.now.code program.now.lengths m σ → enabled σ t ≡ true → place σ t < 8
+        → HoldsStep program.now.code program.now.lengths σ t result }
 {
     let mut n = m;
     let u = wide(t);
     let thread = n.threads[u];
-    let memory = n.memory;
     let number = thread.done;
-    let a = after_step(code, lengths, thread, memory, t);
-    let rs = a.registers;
-    n.threads[u] = ThreadState {
-        registers: rs,
-        at: a.at,
-        done: a.done,
-        failed: a.failed,
-    };
-    let values = a.memory;
-    n.memory = values;
-    let l = a.place;
-    let e = n.last[l];
-    let w = last_behind(a.writes, t, number, e);
-    n.last[l] = w;
+    let a = after_step(program, thread, n.memory, t);
+    n.threads[u] = a.thread;
+    let memory = a.memory;
+    n.memory = memory;
+    let e = n.last[a.place];
+    n.last[a.place] = last_behind(a.writes, t, number, e);
     Stepped {
         machine: n,
-        note: [
-            t, number, a.location, a.reads, e.thread, e.number, a.writes, 0,
-        ],
+        note: note_of(t, number, e, a),
     }
 }

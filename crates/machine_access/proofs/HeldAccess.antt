@@ -1,5 +1,5 @@
 -- An access as the code does it: where it goes, whether it reads, what it writes, and the thread behind it.
-use Rattle.std.proofs.Common.{◌≡◌, ℕ, true, cond, eqb, List, ◌∷◌, get_or, refl}
+use Rattle.std.proofs.Common.{◌≡◌, ℕ, true, cond, List, ◌∷◌, get_or, refl}
 use mathlib.Core.Bool.{false≢true}
 use mathlib.Core.Option.{Option, none, some}
 use Rattle.spec_file.specs.declared.instruction.Instruction.{Instruction}
@@ -12,13 +12,13 @@ use Rattle.machine_access.specs.CarriedOut.{value_in, access_of}
 -- a is what the access x, before the instructions is, does in the thread h on this memory
 pub record Meets (h : Local) (x : Instruction) (is : List Instruction) (m : List ℕ) (a : Access) : Type 0 where
   pub place : first_place (x ∷ is) ≡ a.location
-  pub reads : cond (first_takes (x ∷ is)) 1 0 ≡ a.reads
-  pub puts : first_puts h.registers (x ∷ is) (get_or m a.location 0) ≡ cond (eqb a.writes 1) (some a.value) none
-  pub wrote : cond (given (first_puts h.registers (x ∷ is) (get_or m a.location 0))) 1 0 ≡ a.writes
+  pub reads : first_takes (x ∷ is) ≡ a.reads
+  pub puts : first_puts h.registers (x ∷ is) (get_or m a.location 0) ≡ cond a.writes (some a.value) none
+  pub wrote : given (first_puts h.registers (x ∷ is) (get_or m a.location 0)) ≡ a.writes
   pub next : first_next h (x ∷ is) (get_or m a.location 0) ≡ settle 0 a.registers is
 
 -- whether something is written, and what, say all of what is written
-put_again : (o : Option ℕ) → o ≡ cond (eqb (cond (given o) 1 0) 1) (some (value_in o)) none
+put_again : (o : Option ℕ) → o ≡ cond (given o) (some (value_in o)) none
 unfolding given
 put_again none = refl
 put_again (some v) = refl

@@ -1,5 +1,6 @@
 -- Settling, one instruction after the other, as the code carries them out.
 use Rattle.std.proofs.Common.{◌≡◌, ℕ, zero, suc, ◌+◌, ◌*◌, ◌<◌, ◌≤◌, true, false, List, [], ◌∷◌, length, drop, sym, refl, ap, ◌∙◌, true≢false, arith, drop_of_length-le, drop-cons, drop-drop}
+use Rattle.std.specs.Prelude.{Option, None, Some}
 use mathlib.Core.Bool.{false≢true}
 use Rattle.spec_file.specs.declared.instruction.Own.{Own}
 use Rattle.spec_file.specs.declared.instruction.Instruction.{Instruction}
@@ -24,15 +25,17 @@ unfolding begins_with_access
 own_of (Memory a) e = absurd (true≢false e)
 own_of (Alone o) e = (o, refl)
 
-carried_fails : (o : Own) (is : List Instruction) (rs : List ℕ) (x : Outcome) → outcome rs o ≡ x → (carried rs x).failed ≡ true
+carried_fails : (o : Own) (is : List Instruction) (rs : List ℕ) (x : Outcome) → outcome rs o ≡ x → carried x ≡ None
     → settle 0 rs (Alone o ∷ is) ≡ record { registers = rs; rest = []; failed = true }
-carried_fails o is rs (continues ss k) q e = absurd (false≢true e)
+carried_fails o is rs (continues ss k) q e = cc
 carried_fails o is rs stops q e = settle_stops o is rs q
 
-carried_goes : (o : Own) (is : List Instruction) (rs : List ℕ) (x : Outcome) → outcome rs o ≡ x → (carried rs x).failed ≡ false
-    → settle 0 rs (Alone o ∷ is) ≡ settle (carried rs x).skip (carried rs x).registers is
-carried_goes o is rs (continues ss k) q e = settle_continues o is rs ss k q
-carried_goes o is rs stops q e = absurd (true≢false e)
+carried_goes : (o : Own) (is : List Instruction) (rs : List ℕ) (x : Outcome) → outcome rs o ≡ x → (r : Carried) → carried x ≡ Some r
+    → settle 0 rs (Alone o ∷ is) ≡ settle r.skip r.registers is
+carried_goes o is rs (continues ss k) q r e =
+    let same : record { registers = ss; skip = k } ≡ r = cc in
+    settle_continues o is rs ss k q ∙ ap (λ (j : Carried). settle j.skip j.registers is) same
+carried_goes o is rs stops q r e = cc
 
 -- skipping leaves what lies behind
 settle_skip : (k : ℕ) (rs : List ℕ) (is : List Instruction) → settle k rs is ≡ settle 0 rs (drop k is)
@@ -61,10 +64,10 @@ module _ (code : List ℕ) (t n : ℕ) (S : Local) (i : ℕ) (rs : List ℕ) (d 
   abbrev c : List Instruction
   c = thread_code code t n
 
-  -- the code is used up
-  pub loop_ends : n ≤ i → local_of c (record { registers = rs; at = n; done = d; failed = false }) ≡ S
+  -- the code is used up, at its end j
+  pub loop_ends : n ≤ i → (j : ℕ) → n ≤ j → local_of c (record { registers = rs; at = j; done = d; failed = false }) ≡ S
   unfolding settle
-  loop_ends h = sym (left ∙ ap (settle 0 rs) (code_end code t n i h) ∙ ap (λ (is : List Instruction). record { registers = rs; rest = is; failed = false }) (sym (code_end code t n n (omega arith))))
+  loop_ends h j e = sym (left ∙ ap (settle 0 rs) (code_end code t n i h) ∙ ap (λ (is : List Instruction). record { registers = rs; rest = is; failed = false }) (sym (code_end code t n j e)))
 
   -- one instruction more
   module _ (h : i < n) where
@@ -81,8 +84,8 @@ module _ (code : List ℕ) (t n : ℕ) (S : Local) (i : ℕ) (rs : List ℕ) (d 
         ∙ ap (λ (is : List Instruction). record { registers = rs; rest = is; failed = false }) (sym here))
 
     -- what is no access is carried out: r is what it does
-    module _ (e : begins_with_access (instruction_at code (t * 16 + i) ∷ []) ≡ false) (r : Carried)
-        (er : (o : Own) → instruction_at code (t * 16 + i) ≡ Alone o → r ≡ carried rs (outcome rs o)) where
+    module _ (e : begins_with_access (instruction_at code (t * 16 + i) ∷ []) ≡ false) (r : Option Carried)
+        (er : (o : Own) → instruction_at code (t * 16 + i) ≡ Alone o → r ≡ carried (outcome rs o)) where
       abbrev o : Own
       o = (own_of (instruction_at code (t * 16 + i)) e).0
 
@@ -92,20 +95,19 @@ module _ (code : List ℕ) (t n : ℕ) (S : Local) (i : ℕ) (rs : List ℕ) (d 
       own : drop i c ≡ Alone o ∷ drop (suc i) c
       own = here ∙ ap (λ (j : Instruction). j ∷ drop (suc i) c) is_own
 
-      same : r ≡ carried rs (outcome rs o)
-      same = er o is_own
+      same : carried (outcome rs o) ≡ r
+      same = sym (er o is_own)
 
       -- an assertion fails
-      pub loop_fails : r.failed ≡ true → local_of c (record { registers = rs; at = n; done = d; failed = true }) ≡ S
+      pub loop_fails : r ≡ None → local_of c (record { registers = rs; at = n; done = d; failed = true }) ≡ S
       loop_fails f =
-          sym (left ∙ ap (settle 0 rs) own ∙ carried_fails o (drop (suc i) c) rs (outcome rs o) refl (ap (λ (k : Carried). k.failed) (sym same) ∙ f)
+          sym (left ∙ ap (settle 0 rs) own ∙ carried_fails o (drop (suc i) c) rs (outcome rs o) refl (same ∙ f)
           ∙ ap (λ (is : List Instruction). record { registers = rs; rest = is; failed = true }) (sym (code_end code t n n (omega arith))))
 
       -- the thread goes on
-      pub loop_goes : (k : ℕ) → r.failed ≡ false → k ≡ r.skip → S ≡ settle 0 r.registers (drop (i + k + 1) c)
-      loop_goes k f q =
+      pub loop_goes : (k : ℕ) (g : Carried) → r ≡ Some g → k ≡ g.skip → S ≡ settle 0 g.registers (drop (i + (k + 1)) c)
+      loop_goes k g f q =
           left ∙ ap (settle 0 rs) own
-          ∙ carried_goes o (drop (suc i) c) rs (outcome rs o) refl (ap (λ (k : Carried). k.failed) (sym same) ∙ f)
-          ∙ ap (λ (k : Carried). settle k.skip k.registers (drop (suc i) c)) (sym same)
-          ∙ settle_skip r.skip r.registers (drop (suc i) c)
-          ∙ ap (settle 0 r.registers) (drop-drop r.skip (suc i) c ∙ ap (λ (j : ℕ). drop j c) (let z : suc i + r.skip ≡ i + k + 1 = omega arith in z))
+          ∙ carried_goes o (drop (suc i) c) rs (outcome rs o) refl g (same ∙ f)
+          ∙ settle_skip g.skip g.registers (drop (suc i) c)
+          ∙ ap (settle 0 g.registers) (drop-drop g.skip (suc i) c ∙ ap (λ (j : ℕ). drop j c) (let z : suc i + g.skip ≡ i + (k + 1) = omega arith in z))

@@ -14,12 +14,10 @@ fn accesses_in(code: &Code, t: usize, n: usize) -> usize
     ensures few { result ≤ 16 }
 {
     let mut count = 0;
-    let mut i = 0;
-    while i < n {
+    for i in 0..n {
         if is_access(code, t * 16 + i) {
             count += 1;
         }
-        i += 1;
     }
     count
 }
@@ -31,10 +29,8 @@ pub fn accesses_below(code: &Code, lengths: &[usize; 6], n: usize) -> usize
     ensures few { result ≤ n * 16 }
 {
     let mut count = 0;
-    let mut t = 0;
-    while t < n {
+    for t in 0..n {
         count += accesses_in(code, t, lengths[t]);
-        t += 1;
     }
     count
 }

@@ -31,32 +31,31 @@ pub fn settle(
             return ThreadState {
                 registers: rs,
                 at: i,
-                done: done,
+                done,
                 failed: false,
             };
         }
-        let c = carried_out(code, row, rs);
-        if c.failed {
+        let Some(c) = carried_out(code, row, rs) else {
             return ThreadState {
                 registers: rs,
                 at: n,
-                done: done,
+                done,
                 failed: true,
             };
-        }
+        };
         rs = c.registers;
-        i = i + wide(c.skip) + 1;
+        i += wide(c.skip) + 1;
     }
     ThreadState {
         registers: rs,
         at: n,
-        done: done,
+        done,
         failed: false,
     }
 }
 
 // A thread carried to its next access, quick where an access or the end comes at once. The registers are taken one by one, so that none of
-// the ways keeps them in memory.
+// the ways keeps them in memory: given on whole, as settle leaves them, a step takes a quarter longer.
 pub fn settled(
     code: &Code,
     t: usize,
@@ -70,28 +69,18 @@ pub fn settled(
         ≡ settle 0 registers (drop from (thread_code code.now t n)) }
     ensures within { (from ≤ result.at) × (result.at ≤ n) × (result.done ≡ done) }
 {
-    if from < n {
-        if is_access(code, t * 16 + from) {
-            return ThreadState {
-                registers: registers,
-                at: from,
-                done: done,
-                failed: false,
-            };
-        }
-        let k = settle(code, t, n, from, registers, done);
-        let rs = k.registers;
+    if from == n || is_access(code, t * 16 + from) {
         return ThreadState {
-            registers: [rs[0], rs[1], rs[2], rs[3]],
-            at: k.at,
-            done: k.done,
-            failed: k.failed,
+            registers,
+            at: from,
+            done,
+            failed: false,
         };
     }
+    let k = settle(code, t, n, from, registers, done);
+    let rs = k.registers;
     ThreadState {
-        registers: registers,
-        at: n,
-        done: done,
-        failed: false,
+        registers: [rs[0], rs[1], rs[2], rs[3]],
+        ..k
     }
 }

@@ -2,7 +2,7 @@
 
 // A thread: its registers, the number of its next instruction (the code's length where none is left), how many accesses it did, and whether
 // an assertion failed.
-#[derive(Clone, Copy)]
+#[derive(Clone, Copy, Default)]
 pub struct ThreadState {
     pub registers: [u32; 4],
     pub at: usize,

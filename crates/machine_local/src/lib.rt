@@ -8,5 +8,5 @@ mod comparing;
 // What the instruction in a row does, where it is no access.
 mod own;
 
-pub use local::{Carried, value, with_register};
+pub use local::{Carried, value, with_at};
 pub use own::{carried_out, is_access};

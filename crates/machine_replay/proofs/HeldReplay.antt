@@ -1,4 +1,5 @@
 -- A schedule carried out byte by byte: what has been done and what is left make the answer.
+use Rattle.std.specs.Prelude.{Ok, Err}
 use Prim.Native.Nat.{ℕ, suc, ◌+◌, ◌<◌, ◌≤◌}
 use native.Mathlib.Omega.{arith}
 use mathlib.Core.Path.{◌≡◌, refl, sym, ap, subst, ◌∙◌}
@@ -14,11 +15,10 @@ use Rattle.machine.specs.declared.state.LastWrite.{LastWrite}
 use Rattle.machine.specs.declared.state.Machine.{Machine}
 use Rattle.machine.specs.declared.stepping.After.{After}
 use Rattle.machine.specs.declared.stepping.Stepped.{Stepped}
-use Rattle.machine_replay.specs.declared.replaying.Verdict.TheVariants.{Whole, Refused}
 use Rattle.spec_sc.specs.State.{State, place, step, enabled, SC, start}
 use Rattle.graph_writer.specs.Notes.{note, notes, Noted, put_note}
 use Rattle.spec_sc.specs.Replay.{replay_from, replay}
-use Rattle.machine.specs.Held.{thread_at, last_at, Holds, ReadyThread, Ready, HoldsStep, thread_after, last_after, note_after, whole, Loaded}
+use Rattle.machine.specs.Held.{thread_at, last_at, Holds, ReadyThread, Ready, HoldsStep, last_after, note_after, whole, Loaded}
 use Rattle.machine_replay.specs.Carried.{verdict_of, HoldsRun}
 use Rattle.spec_sc.proofs.Steps.{enabled_range, run_threads}
 use Rattle.spec_sc.proofs.Start.{start_threads}
@@ -27,7 +27,7 @@ use Rattle.graph_writer.proofs.NoteGraph.{notes_length, notes_snoc}
 use Rattle.spec_sc.proofs.Regular.{place_in, regular_run, regular_start}
 use Rattle.spec_sc.proofs.Replay.{nil_full, nil_short, cons_goes, cons_stops}
 use Rattle.machine.proofs.HeldStart.{threads_held, short_held}
-use Rattle.machine.proofs.HeldAsking.{held_enabled, held_ended, ready_held}
+use Rattle.machine.proofs.HeldAsking.{ready_held}
 use Rattle.machine.proofs.HeldStep.{stored_whole}
 use Rattle.graph_writer.proofs.HeldNotes.{noted_none, note_put}
 
@@ -59,7 +59,7 @@ module _ (code lengths : List ℕ) (threads : ℕ) (p : Program) (loaded : Loade
     next = ap (λ (j : ℕ). take j s) (let z : k + 1 ≡ suc k = omega arith in z) ∙ take-suc s k 0 h
 
     -- the next byte may not step
-    pub replay_stops : enabled σ t ≡ false → HoldsRun code lengths p s (record { verdict = Refused 20 k; machine = m; log = log; schedule = made; steps = k })
+    pub replay_stops : enabled σ t ≡ false → HoldsRun code lengths p s (record { end = Err (record { number = 20; place = k }); machine = m; log = log; schedule = made; steps = k })
     unfolding verdict_of
     replay_stops e = record {
       counted = done.within;
@@ -68,7 +68,7 @@ module _ (code lengths : List ℕ) (threads : ℕ) (p : Program) (loaded : Loade
       holds = done.holds;
       noted = done.noted;
       answer = sym (done.left ∙ ap (replay_from k σ) (drop-cons s k 0 h) ∙ cons_stops k σ t (drop (suc k) s) e);
-      all = λ q. absurd (let z : ◌≡◌ {A = ℕ} 0 1 = cc in omega arith);
+      all = λ q. cc;
     }
 
     module _ (ok : enabled σ t ≡ true) where
@@ -113,44 +113,34 @@ module _ (code lengths : List ℕ) (threads : ℕ) (p : Program) (loaded : Loade
                 ∙ ap (λ (j : ℕ). replay_from j (run SC (start p) (take (k + 1) s)) (drop j s)) (let z : suc k ≡ k + 1 = omega arith in z);
           }
 
-    -- the code names its thread by u, and finds what it does in the machine itself
-    module _ (u : ℕ) (eu : u ≡ t) (six : t < 6) where
-      pub replay_over : get_or lengths u 0 ≤ (thread_at m u).at → enabled σ t ≡ false
-      replay_over l = held_ended code lengths m σ done.holds t six (subst (λ (v : ℕ). get_or lengths v 0 ≤ (thread_at m v).at) eu l)
-
-      module _ (left : (thread_at m u).at < get_or lengths u 0) where
-        enabled_here : enabled σ t ≡ true
-        enabled_here = held_enabled code lengths m σ done.holds t six (subst (λ (v : ℕ). (thread_at m v).at < get_or lengths v 0) eu left)
-
+      -- the code names its thread by u
+      module _ (u : ℕ) (eu : u ≡ t) where
         pub replay_thread : ReadyThread lengths (thread_at m u) t
-        replay_thread = subst (λ (v : ℕ). ReadyThread lengths (thread_at m v) t) (sym eu) (replay_ready enabled_here)
-
-        pub replay_fits : k < 24
-        replay_fits = replay_room enabled_here
+        replay_thread = subst (λ (v : ℕ). ReadyThread lengths (thread_at m v) t) (sym eu) replay_ready
 
         pub replay_stored : (a : After) (trail' made' : List ℕ) → made' ≡ set made k t
             → ((n : Machine) (τ : State) → thread_at n t ≡ thread_at m u → n.memory ≡ m.memory → Holds code lengths n τ → enabled τ t ≡ true → place τ t < 8 → HoldsStep code lengths τ t (whole n t t a))
             → (w : LastWrite) → w ≡ last_after t (thread_at m u).done (last_at m a.place) a
             → trail' ≡ put_note log k (note_after t (thread_at m u).done (last_at m a.place) a)
-            → Progress code lengths p s (record { threads = set m.threads u (thread_after a); memory = a.memory; last = set m.last a.place w }) trail' made' (k + 1)
+            → Progress code lengths p s (record { threads = set m.threads u a.thread; memory = a.memory; last = set m.last a.place w }) trail' made' (k + 1)
         replay_stored a trail' made' em acts w ew put =
             subst (λ (l : List ℕ). Progress code lengths p s (behind w) trail' l (k + 1)) (sym em)
             (subst (λ (e : LastWrite). Progress code lengths p s (behind e) trail' (set made k t) (k + 1)) (sym ew)
-            (replay_more enabled_here (whole m u t a) trail' (stored_whole code lengths m t u a eu acts σ done.holds enabled_here (replay_near enabled_here)) put))
+            (replay_more (whole m u t a) trail' (stored_whole code lengths m t u a eu acts σ done.holds ok replay_near) put))
           where
             behind : LastWrite → Machine
-            behind e = record { threads = set m.threads u (thread_after a); memory = a.memory; last = set m.last a.place e }
+            behind e = record { threads = set m.threads u a.thread; memory = a.memory; last = set m.last a.place e }
 
   -- ---- none is left
   module _ (h : length s ≤ k) where
     finished : replay p s ≡ replay_from k σ []
     finished = done.left ∙ ap (replay_from k σ) (drop_of_length-le s {i = k} h)
 
-    pub replay_whole : ended SC σ ≡ true → HoldsRun code lengths p s (record { verdict = Whole; machine = m; log = log; schedule = made; steps = k })
+    pub replay_whole : ended SC σ ≡ true → HoldsRun code lengths p s (record { end = Ok tt; machine = m; log = log; schedule = made; steps = k })
     unfolding verdict_of
     replay_whole e = record { counted = done.within; schedule = done.schedule; allowed = done.allowed; holds = done.holds; noted = done.noted; answer = sym (finished ∙ nil_full k σ e); all = λ q. take_all k s h }
 
-    pub replay_short : ended SC σ ≡ false → HoldsRun code lengths p s (record { verdict = Refused 21 k; machine = m; log = log; schedule = made; steps = k })
+    pub replay_short : ended SC σ ≡ false → HoldsRun code lengths p s (record { end = Err (record { number = 21; place = k }); machine = m; log = log; schedule = made; steps = k })
     unfolding verdict_of
     replay_short e = record {
       counted = done.within;
@@ -159,5 +149,5 @@ module _ (code lengths : List ℕ) (threads : ℕ) (p : Program) (loaded : Loade
       holds = done.holds;
       noted = done.noted;
       answer = sym (finished ∙ nil_short k σ e);
-      all = λ q. absurd (let z : ◌≡◌ {A = ℕ} 0 1 = cc in omega arith);
+      all = λ q. cc;
     }

@@ -4,4 +4,4 @@
 // The steps of a schedule, made as far as they may be.
 mod replaying;
 
-pub use replaying::{Run, Verdict, replayed};
+pub use replaying::{Run, replayed};

@@ -7,4 +7,4 @@ mod kth_call;
 mod rank_call;
 
 pub use kth_call::kth;
-pub use rank_call::{RankAnswer, rank};
+pub use rank_call::rank;

@@ -1,9 +1,11 @@
 -- A full schedule that was carried out: the machine behind it has the outcome, in both memory models.
+use Rattle.std.specs.Prelude.{Result, Ok, Err, ⊤}
 use Prim.Native.Nat.{ℕ}
 use mathlib.Core.Path.{◌≡◌, refl, sym, ap₂, subst, ◌∙◌}
 use mathlib.Core.Bool.{Bool}
 use mathlib.Core.Option.{none, none-ne-some}
 use mathlib.Core.List.{List}
+use Rattle.spec_file.specs.declared.refusal.Refusal.{Refusal}
 use Rattle.spec_file.specs.Program.{Program}
 use Rattle.spec_schedules.specs.Order.{Schedule}
 use Rattle.spec_schedules.specs.System.{run}
@@ -17,8 +19,6 @@ use Rattle.machine.specs.declared.state.Machine.{Machine}
 use Rattle.machine.specs.Held.{Holds}
 use Rattle.machine.specs.Asked.{some_failed}
 use Rattle.machine.proofs.HeldAsking.{fails_by_lem}
-use Rattle.machine_replay.specs.declared.replaying.Verdict.{Verdict}
-use Rattle.machine_replay.specs.declared.replaying.Verdict.TheVariants.{Whole, Refused}
 use Rattle.machine_replay.specs.declared.replaying.Run.{Run}
 use Rattle.machine_replay.specs.Carried.{refusal_of, HoldsRun}
 use Rattle.machine_replay.proofs.Verdicts.{refusal_refused, verdict_refuses}
@@ -32,10 +32,10 @@ use Rattle.states_outcomes.proofs.Values.{values_memory}
 abbrev outcome : List ℕ → Bool → Outcome
 outcome m f = record { memory = m; fails = f }
 
--- a verdict that refuses nothing
-whole_of : (v : Verdict) → refusal_of v ≡ none → v ≡ Whole
-whole_of Whole q = refl
-whole_of (Refused n k) q = absurd (none-ne-some (n, k) (sym q ∙ refusal_refused n k))
+-- an end that refuses nothing
+pub whole_of : (v : Result ⊤ Refusal) → refusal_of v ≡ none → v ≡ Ok tt
+whole_of (Ok _) q = refl
+whole_of (Err r) q = absurd (none-ne-some (r.number, r.place) (sym q ∙ refusal_refused r))
 
 -- what the machine that holds a state shows of it
 shown : (code lengths : List ℕ) (m : Machine) (σ : State) → Holds code lengths m σ → (f : Bool) → f ≡ some_failed m.threads → outcome m.memory f ≡ outcome (memory_of σ) (fails σ)
@@ -46,7 +46,7 @@ module _ (code lengths : List ℕ) (p : Program) (s : Schedule) where
     made : Holds code lengths r.machine (run SC (start p) s)
     made =
         subst (λ (x : Schedule). Holds code lengths r.machine (run SC (start p) x))
-        (held.all (whole_of r.verdict (verdict_refuses code lengths p s r held ∙ full_goes SC s 0 (start p) full))) held.holds
+        (held.all (whole_of r.end (verdict_refuses code lengths p s r held ∙ full_goes SC s 0 (start p) full))) held.holds
 
     pub sequential_outcome : (f : Bool) → f ≡ some_failed r.machine.threads → outcome r.machine.memory f ≡ outcome_under sc p s
     unfolding outcome_under
@@ -56,7 +56,7 @@ module _ (code lengths : List ℕ) (p : Program) (s : Schedule) where
     queued : QueueHeld.Holds code lengths r.machine (run Queues.TSO (Queues.start p) s)
     queued =
         subst (λ (x : Schedule). QueueHeld.Holds code lengths r.machine (run Queues.TSO (Queues.start p) x))
-        (held.all (whole_of r.verdict (held.answer ∙ full_goes Queues.TSO s 0 (Queues.start p) full))) held.holds
+        (held.all (whole_of r.end (held.answer ∙ full_goes Queues.TSO s 0 (Queues.start p) full))) held.holds
 
     pub queued_outcome : (f : Bool) → f ≡ some_failed r.machine.threads → outcome r.machine.memory f ≡ outcome_under tso p s
     unfolding outcome_under Queues.memory_of Queues.fails

@@ -1,6 +1,6 @@
 -- A row of a page read off: where it stands, how many steps it has, and what they are, in both memory models.
 use Prim.Native.Nat.{ℕ, ◌+◌, ◌-◌, ◌*◌, ◌<◌, ◌≤◌}
-use mathlib.Core.Path.{◌≡◌, refl, sym, ap, ap₂, subst, ◌∙◌}
+use mathlib.Core.Path.{◌≡◌, sym, ap, ap₂, subst, ◌∙◌}
 use mathlib.Core.List.{List, []}
 use native.Mathlib.Omega.{arith}
 use lib.ListN.{length, get_or, take, drop, length-drop}
@@ -29,6 +29,9 @@ module _ (m : Model) (p : Program) (ss : List Schedule) (rows : List ℕ) (n : �
 
     few : steps ≤ w
     few = omega (arith, e, counted, row_short (model_of m) p ss rows n r k h)
+
+    pub within_need : steps ≤ (model_of m).need
+    within_need = omega (arith, e, few)
 
     abbrev behind : List ℕ
     behind = take (length rows - k * (w + 2)) (drop (k * (w + 2)) rows)

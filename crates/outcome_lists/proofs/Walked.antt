@@ -1,11 +1,11 @@
--- The first listed schedule that passes a test, as the code looks for it: row after row of a page, and page after page of the list. In both
+-- The first listed schedule that passes a test, as the code looks for it: page after page of the list, and row after row of each. In both
 -- memory models and for any test.
 use Prim.Native.Nat.{ℕ, ◌+◌, ◌<◌, ◌≤◌}
-use mathlib.Core.Path.{◌≡◌, refl, sym, ap, subst, ◌∙◌}
+use mathlib.Core.Path.{◌≡◌, sym, ap, subst, ◌∙◌}
 use mathlib.Core.Bool.{Bool, true, false}
-use mathlib.Core.Option.{none, some}
+use mathlib.Core.Option.{some}
 use mathlib.Core.List.{List, []}
-use lib.ListN.{length, get_or, take, drop}
+use lib.ListN.{get_or, drop}
 use Rattle.spec_file.specs.Program.{Program}
 use Rattle.spec_schedules.specs.Lists.{find}
 use Rattle.spec_schedules.specs.Order.{Schedule}
@@ -14,57 +14,50 @@ use Rattle.spec_model.specs.Laws.{Admitted}
 use Rattle.spec_model.specs.Alike.{list_of}
 use Rattle.listing_cursor.specs.declared.cursor.Cursor.{Cursor}
 use Rattle.listing_cursor.specs.declared.cursor.Page.{Page}
+use Rattle.listing_cursor.specs.declared.steps.Steps.{Steps}
 use Rattle.listing_cursor.specs.ListRows.{Paged}
+use Rattle.listing_cursor.specs.Steps.{steps_of}
 use Rattle.listing_model.specs.declared.memory.Model.{Model}
 use Rattle.listing_model.specs.ModelOf.{model_of}
 use Rattle.listing_model.proofs.ModelLaws.{model_laws}
 use Rattle.listing_pages.specs.Page.{Rows}
 use Rattle.listing_pages.proofs.FirstOfRows.{row_full, left_here, left_next, left_none}
-use Rattle.listing_pages.proofs.FirstByPages.{ToCome, page_rows, to_come_next, to_come_here}
-use Rattle.outcome_lists.specs.declared.coming.Coming.{Coming}
-use Rattle.outcome_lists.specs.FoundOf.{found_of}
-use Rattle.outcome_lists.proofs.Found.{found_none, found_some}
+use Rattle.listing_pages.proofs.FirstByPages.{ToCome, here, page_rows, to_come_next, to_come_here}
 
-module _ (m : Model) (p : Program) (f : Schedule → Bool) where
-  -- row after row: what is left has the first
-  module _ (rows : List ℕ) (n : ℕ) where
-    abbrev pub Left : ℕ → Type 0
-    Left k = (ss : List Schedule) → Rows (model_of m) p ss rows n → find f ss ≡ find f (drop k ss)
+module _ (m : Model) (p : Program) where
+  -- what is left of these rows from row k on has the first of them all
+  abbrev pub Left : (Schedule → Bool) → List ℕ → ℕ → ℕ → Type 0
+  Left f rows n k = (ss : List Schedule) → Rows (model_of m) p ss rows n → find f ss ≡ find f (drop k ss)
 
-    -- whatever rows these are, this is the first of them
-    abbrev pub FirstIn : Coming → Type 0
-    FirstIn r = (ss : List Schedule) → Rows (model_of m) p ss rows n → found_of r ≡ find f ss
+  -- a page: the first is of it, or yet to come behind it
+  module _ (a : Admitted (model_of m) p) (c : Cursor) (rows rows' : List ℕ) (g : Page) (page : Paged (model_of m) p false c rows rows' g) where
+    -- its schedules
+    abbrev pub of_page : List Schedule
+    of_page = here (model_of m) p c rows rows' g page
 
-    pub left_start : Left 0
-    left_start ss i = refl
+    pub rows_here : Rows (model_of m) p of_page rows' g.rows
+    rows_here = page_rows (model_of m) p c rows rows' g page (model_laws m) a
 
-    pub left_over : (k : ℕ) → n ≤ k → Left k → (r : Coming) → found_of r ≡ none → FirstIn r
-    left_over k h left r e ss i = e ∙ sym (left ss i ∙ left_none (model_of m) p ss rows n i f k h)
+    -- a row that was read off
+    module _ (k : ℕ) (h : k < g.rows) (r : Steps 48)
+        (row : (q : Program) (ss : List Schedule) (n : ℕ) → Rows (model_of m) q ss rows' n → k < n → steps_of r ≡ get_or ss k []) (s : Schedule) (e : s ≡ steps_of r) where
+      is : s ≡ get_or of_page k []
+      is = e ∙ row p of_page g.rows rows_here h
 
-    -- row k was read and tested
-    module _ (k : ℕ) (h : k < n) (left : Left k) (r : Coming)
-        (row : (q : Program) (ss : List Schedule) (j : ℕ) → Rows (model_of m) q ss rows j → k < j → take r.steps r.schedule ≡ get_or ss k []) (b : Bool)
-        (test : Full (model_of m) p (take r.steps r.schedule) → b ≡ f (take r.steps r.schedule)) where
-      tested : (ss : List Schedule) → Rows (model_of m) p ss rows n → b ≡ f (get_or ss k [])
-      tested ss i =
-          let e = row p ss n i h in
-          test (subst (Full (model_of m) p) (sym e) (row_full (model_of m) p ss rows n i k h (model_laws m))) ∙ ap f e
+      pub row_is_full : Full (model_of m) p s
+      row_is_full = subst (Full (model_of m) p) (sym is) (row_full (model_of m) p of_page rows' g.rows rows_here k h (model_laws m))
 
-      pub turn_found : r.found ≡ true → b ≡ true → FirstIn r
-      turn_found found e ss i =
-          found_some r found ∙ ap some (row p ss n i h) ∙ sym (left ss i ∙ left_here (model_of m) p ss rows n i f k h (sym (tested ss i) ∙ e))
+      -- and tested
+      module _ (f : Schedule → Bool) (left : Left f rows' g.rows k) where
+        pub row_passes : ToCome (model_of m) p f c → f s ≡ true → some (steps_of r) ≡ find f (list_of (model_of m) p)
+        row_passes t q =
+            ap some (sym e ∙ is)
+            ∙ sym (to_come_here (model_of m) p c rows rows' g page f t (get_or of_page k [])
+            (left of_page rows_here ∙ left_here (model_of m) p of_page rows' g.rows rows_here f k h (sym (ap f is) ∙ q)))
 
-      pub turn_next : b ≡ false → Left (k + 1)
-      turn_next e ss i = left ss i ∙ left_next (model_of m) p ss rows n i f k h (sym (tested ss i) ∙ e)
+        pub row_fails : f s ≡ false → Left f rows' g.rows (k + 1)
+        row_fails q ss i = left ss i ∙ left_next (model_of m) p ss rows' g.rows i f k h (sym (ap f (e ∙ row p ss g.rows i h)) ∙ q)
 
-  -- page after page: the first is of the page, or yet to come
-  module _ (a : Admitted (model_of m) p) (c : Cursor) (rows rows' : List ℕ) (g : Page) (page : Paged (model_of m) p false c rows rows' g) (t : ToCome (model_of m) p f c)
-      (r : Coming) (first : FirstIn rows' g.rows r) where
-    pub page_found : r.found ≡ true → found_of r ≡ find f (list_of (model_of m) p)
-    page_found e =
-        found_some r e
-        ∙ sym (to_come_here (model_of m) p c rows rows' g page f t _ (sym (first _ (page_rows (model_of m) p c rows rows' g page (model_laws m) a)) ∙ found_some r e))
-
-    pub page_next : r.found ≡ false → ToCome (model_of m) p f g.cursor
-    page_next e =
-        to_come_next (model_of m) p c rows rows' g page f t (sym (first _ (page_rows (model_of m) p c rows rows' g page (model_laws m) a)) ∙ found_none r e)
+    pub none_passes : (f : Schedule → Bool) (k : ℕ) → g.rows ≤ k → Left f rows' g.rows k → ToCome (model_of m) p f c → ToCome (model_of m) p f g.cursor
+    none_passes f k h left t =
+        to_come_next (model_of m) p c rows rows' g page f t (left of_page rows_here ∙ left_none (model_of m) p of_page rows' g.rows rows_here f k h)

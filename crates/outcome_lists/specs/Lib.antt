@@ -1,2 +1,3 @@
--- A schedule that was looked for, as the code has it.
-pub mod FoundOf
+-- How answers and outputs hold what the definitions say.
+-- a schedule that was found, and in front of an output
+pub mod Found

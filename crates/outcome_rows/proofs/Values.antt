@@ -1,24 +1,14 @@
 -- Eight values written one after the other.
-use Prim.Native.Nat.{ℕ, zero, suc, ◌+◌, ◌*◌, ◌-◌, ◌/◌, ◌%◌, ◌^◌, ◌<◌, ◌≤◌}
-use mathlib.Core.Path.{◌≡◌, refl, sym, ap, ◌∙◌}
+use Prim.Native.Nat.{ℕ, suc, ◌+◌, ◌*◌, ◌-◌, ◌<◌, ◌≤◌}
+use mathlib.Core.Path.{◌≡◌, refl, sym, ap, ap₂, ◌∙◌}
 use mathlib.Core.List.{List, [], ◌∷◌, ◌++◌, flat_map, append_assoc, append-nil}
 use native.Mathlib.Omega.{arith}
-use lib.ListN.{length, get_or, set, take, drop, length-append}
-use lib.Seq.{take-suc, take_all, length-take-le}
+use lib.ListN.{length, get_or, take, drop, length-append}
+use lib.Seq.{take-suc, take_at, take_all, drop_at, drop-drop, length-take-le}
 use borrow.Rule.Slice.PartMut.{mid_of, put_mid}
 use Rattle.spec_file.specs.Over.{over}
 use Rattle.spec_file.proofs.Over.{over_part}
 use Rattle.spec_outcomes.specs.OutcomesCall.{four_bytes}
-
--- four stores at the front
-pub four_stored : (l : List ℕ) (v : ℕ) → 4 ≤ length l
-    → set (set (set (set l 0 (v / 2 ^ 24 % 256)) 1 (v / 2 ^ 16 % 256)) 2 (v / 2 ^ 8 % 256)) 3 (v % 256) ≡ over (four_bytes v) l
-unfolding over four_bytes
-four_stored [] v h = absurd (omega arith)
-four_stored (a ∷ []) v h = absurd (omega arith)
-four_stored (a ∷ b ∷ []) v h = absurd (omega arith)
-four_stored (a ∷ b ∷ c ∷ []) v h = absurd (omega arith)
-four_stored (a ∷ b ∷ c ∷ d ∷ l) v h = refl
 
 pub four_length : (v : ℕ) → length (four_bytes v) ≡ 4
 unfolding four_bytes
@@ -44,16 +34,24 @@ pub values_none : (m l : List ℕ) → l ≡ over (flat_map four_bytes (take 0 m
 unfolding over flat_map
 values_none m l = refl
 
+-- a text put in behind a text
+put_behind : (t u l : List ℕ) (a : ℕ) → length t ≡ a → put_mid a (length u) (over t l) u ≡ over (t ++ u) l
+unfolding over
+put_behind t u l a e =
+    ap₂ (λ (x y : List ℕ). x ++ (u ++ y)) (take_at t (drop (length t) l) a e) (ap (drop (length u)) (drop_at t (drop (length t) l) a e) ∙ drop-drop (length u) (length t) l)
+    ∙ sym (ap (λ (j : ℕ). (t ++ u) ++ drop j l) (length-append t u) ∙ append_assoc t u (drop (length t + length u) l))
+
 -- one value more
-pub value_more : (m l out ys : List ℕ) (k : ℕ) → length m ≡ 8 → k < 8 → 32 ≤ length l → out ≡ over (flat_map four_bytes (take k m)) l
-    → ys ≡ over (four_bytes (get_or m k 0)) (mid_of (4 * k) (length out - 4 * k) out)
-    → put_mid (4 * k) (length out - 4 * k) out ys ≡ over (flat_map four_bytes (take (k + 1) m)) l
-value_more m l out ys k e h room is put =
+pub value_more : (m l out ys : List ℕ) (k n : ℕ) → length m ≡ 8 → k < 8 → n ≡ 4 → out ≡ over (flat_map four_bytes (take k m)) l → ys ≡ four_bytes (get_or m k 0)
+    → put_mid (4 * k) n out ys ≡ over (flat_map four_bytes (take (k + 1) m)) l
+value_more m l out ys k n e h four is put =
     let t : List ℕ = flat_map four_bytes (take k m) in
     let c : length (take k m) ≡ k = length-take-le k m (omega (arith, e, h)) in
-    let n : length t ≡ 4 * k = values_length (take k m) ∙ ap (λ (i : ℕ). 4 * i) c in
+    let at : length t ≡ 4 * k = values_length (take k m) ∙ ap (λ (i : ℕ). 4 * i) c in
     let j : suc k ≡ k + 1 = omega arith in
-    over_part t (four_bytes (get_or m k 0)) l out ys (4 * k) is n (omega (arith, n, h, room)) put
+    ap₂ (λ (i : ℕ) (x : List ℕ). put_mid (4 * k) i x ys) (four ∙ sym (ap length put ∙ four_length (get_or m k 0))) is
+    ∙ put_behind t ys l (4 * k) at
+    ∙ ap (λ (x : List ℕ). over (t ++ x) l) put
     ∙ ap (λ (x : List ℕ). over x l) (ap (λ (x : List ℕ). t ++ x) (sym (one_value (get_or m k 0))) ∙ sym (values_append (take k m) (get_or m k 0 ∷ []))
     ∙ ap (λ (x : List ℕ). flat_map four_bytes x) (sym (take-suc m k 0 (omega (arith, e, h))) ∙ ap (λ (i : ℕ). take i m) j))
 

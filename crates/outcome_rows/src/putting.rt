@@ -8,27 +8,13 @@ ghost use Rattle.spec_outcomes.specs.OutcomesCall.{four_bytes};
 use listing_cursor::put_row;
 use spec_covers::Outcome;
 
-// Writes a value to the front of the output, the most significant byte first.
-fn put_four(out: &mut [u8], v: u32)
-    requires { 4 ≤ length out.old }
-    ensures { out.new ≡ over (four_bytes v) out.old }
-{
-    out[0] = (v / 16777216 % 256) as u8;
-    out[1] = (v / 65536 % 256) as u8;
-    out[2] = (v / 256 % 256) as u8;
-    out[3] = (v % 256) as u8;
-}
-
-// Writes eight values to the front of the output.
-fn put_values(out: &mut [u8], memory: [u32; 8])
+// Writes eight values to the front of the output, each with its most significant byte first.
+fn put_values(out: &mut [u8], memory: &[u32; 8])
     requires { 32 ≤ length out.old }
-    ensures { out.new ≡ over (flat_map four_bytes memory) out.old }
+    ensures { out.new ≡ over (flat_map four_bytes memory.now) out.old }
 {
-    let mut k = 0;
-    while k < 8 {
-        let v = memory[k];
-        put_four(&mut out[4 * k..], v);
-        k += 1;
+    for (k, v) in memory.iter().enumerate() {
+        out[4 * k..4 * k + 4].copy_from_slice(&v.to_be_bytes());
     }
 }
 
@@ -38,7 +24,6 @@ pub fn put_outcome(out: &mut [u8], at: usize, width: usize, o: Outcome, steps: &
     ensures { (t l : List ℕ) → out.old ≡ over t l → length t ≡ at → length out.old ≡ length l
         → out.new ≡ over (t ++ (flat_map four_bytes o.memory ++ row_bytes width steps.now o.fails)) l }
 {
-    let memory = o.memory;
-    put_values(&mut out[at..], memory);
+    put_values(&mut out[at..], &o.memory);
     put_row(&mut out[at + 32..], width, steps, o.fails);
 }

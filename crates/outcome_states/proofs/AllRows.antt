@@ -1,11 +1,13 @@
 -- OUTCOMES GATHERED IN ONE WALK, in any memory model: where nothing is left and all that was added is an outcome, the rows are exactly the outcomes.
-use Prim.Native.Nat.{ℕ}
+use Rattle.std.specs.Prelude.{Option, Some, None, IfSome}
+use Prim.Native.Nat.{ℕ, ◌*◌, ◌≤◌}
 use mathlib.Core.Path.{◌≡◌, refl, sym, ap, subst, ◌∙◌}
 use mathlib.Core.Logic.{⊎_elim}
 use mathlib.Core.Bool.{Bool, true, false, not, true≢false}
 use mathlib.Core.Option.{none}
 use mathlib.Core.List.{List}
-use lib.ListN.{length}
+use native.Mathlib.Omega.{arith}
+use lib.ListN.{length, take}
 use Rattle.spec_file.specs.Program.{Program}
 use Rattle.spec_file.proofs.Tests.{equal_tests}
 use Rattle.spec_schedules.specs.Lists.{any, find}
@@ -14,16 +16,13 @@ use Rattle.spec_schedules.proofs.Lists.{any_yes}
 use Rattle.spec_model.specs.Model.{Model}
 use Rattle.spec_model.specs.Laws.{Admitted, Laws}
 use Rattle.spec_model.specs.Alike.{list_of}
-use Rattle.spec_sc.specs.Sequential.{sc}
 use Rattle.spec_covers.specs.declared.outcome.Outcome.{Outcome}
-use Rattle.spec_covers.specs.Covers.{outcome_of}
 use Rattle.spec_across.specs.Under.{outcome_under}
 use Rattle.spec_across.proofs.Attained.{comes_to, comes_is, attained, attained_of}
 use Rattle.theory_outcomes.specs.Gathering.{Attained, Gains}
 use Rattle.states_outcomes.specs.Rows.{row_of, known_row, is_new}
 use Rattle.states_outcomes.proofs.RowLists.{known_none}
-use Rattle.outcome_states.specs.Gathered.{Exactly}
-use Rattle.outcome_states.proofs.Marks.{by_under}
+use Rattle.outcome_states.specs.Gathered.{Exactly, Holds}
 
 -- what was gathered from no rows on
 module _ (M : Model) (L : Laws M) (p : Program) (a : Admitted M p) (rows₀ rows : List ℕ) (k : ℕ)
@@ -56,7 +55,22 @@ pub exactly : (M : Model) → Laws M → (p : Program) → Admitted M p → (row
     → Gains M p (is_new rows₀ 0) (is_new rows k) (λ test. none ≡ find (λ s. test (outcome_under M p s)) (list_of M p)) → Exactly M p rows k
 exactly M L p a rows₀ rows k g x e = gained M L p a rows₀ rows k g x e
 
--- under sequential consistency outcomes are what they are in one model
-pub gains_under : (p : Program) (rows₀ rows : List ℕ) (k : ℕ) → Gains sc p (is_new rows₀ 0) (is_new rows k) (λ test. none ≡ find (λ s. test (outcome_of p s)) (list_of sc p))
-    → Gains sc p (is_new rows₀ 0) (is_new rows k) (λ test. none ≡ find (λ s. test (outcome_under sc p s)) (list_of sc p))
-gains_under p rows₀ rows k g = record { fewer = g.fewer; sound = g.sound; nothing = g.nothing ∙ by_under p rows k }
+-- what was gathered behind a frame with no row
+holds_some : (M : Model) → Laws M → (p : Program) → Admitted M p → (cut cut' known k : ℕ) → cut' ≡ cut → known ≡ 0 → (start lent' : List ℕ)
+    → Gains M p (is_new (take cut' start) known) (is_new (take cut' lent') k) (λ test. none ≡ find (λ s. test (outcome_under M p s)) (list_of M p)) → Exactly M p (take cut lent') k
+holds_some M L p a cut cut' known k e no_row start lent' g =
+    subst (λ (c : ℕ). Exactly M p (take c lent') k) e
+    (exactly M L p a (take cut' start) (take cut' lent') k
+    (subst (λ (n : ℕ). Gains M p (is_new (take cut' start) n) (is_new (take cut' lent') k) (λ test. none ≡ find (λ s. test (outcome_under M p s)) (list_of M p))) no_row g))
+
+pub holds : (M : Model) → Laws M → (p : Program) → Admitted M p → (cut cut' known : ℕ) → cut' ≡ cut → known ≡ 0 → (lent start lent' : List ℕ) → length lent' ≡ length lent
+    → (r : Option ℕ) → IfSome r (λ k. 9 * k ≤ cut')
+    → IfSome r (λ k. Gains M p (is_new (take cut' start) known) (is_new (take cut' lent') k) (λ test. none ≡ find (λ s. test (outcome_under M p s)) (list_of M p))) → Holds M p cut lent lent' r
+holds M L p a cut cut' known e no_row lent start lent' words (Some k) room g =
+    record { words = words; room = omega (arith, e, room); exact = holds_some M L p a cut cut' known k e no_row start lent' g }
+holds M L p a cut cut' known e no_row lent start lent' words None room g = record { words = words; room = tt; exact = tt }
+
+-- where marks are true of the rows
+pub gains_of : (F : Type 0) (r : Option ℕ) (P : ℕ → Type 0) → IfSome r (λ k. F → P k) → F → IfSome r P
+gains_of F (Some k) P h f = h f
+gains_of F None P h f = tt

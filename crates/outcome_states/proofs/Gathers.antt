@@ -2,7 +2,7 @@
 use Prim.Native.Nat.{ℕ, ◌+◌, ◌*◌, ◌-◌, ◌<◌, ◌≤◌}
 use mathlib.Core.Path.{◌≡◌, sym, ap, subst, ◌∙◌}
 use mathlib.Core.Bool.{true, false, true≢false}
-use mathlib.Core.Option.{some, none-ne-some}
+use mathlib.Core.Option.{none, some, none-ne-some}
 use mathlib.Core.List.{List, ◌++◌, flat_map, Memᴰ}
 use native.Mathlib.Omega.{arith}
 use native.Mathlib.Decide.{dec_lt}
@@ -25,9 +25,6 @@ use Rattle.spec_outcomes.specs.Firsts.{firsts_of}
 use Rattle.spec_outcomes.specs.OutcomesCall.{four_bytes, outcome_size, outcome_rows}
 use Rattle.spec_outcomes.proofs.Taken.{take_in}
 use Rattle.spec_outcomes.proofs.Firsts.{first_in}
-use Rattle.outcome_lists.specs.declared.coming.Coming.{Coming}
-use Rattle.outcome_lists.specs.FoundOf.{found_of}
-use Rattle.outcome_lists.proofs.Found.{found_none, found_some}
 use Rattle.states_outcomes.specs.Rows.{row_of, is_new}
 use Rattle.outcome_states.specs.Gathered.{Known, Keeps, Gathers}
 use Rattle.outcome_states.proofs.Known.{new_next, all_known}
@@ -75,15 +72,14 @@ module _ (M : Model) (L : Laws M) (p : Program) (eight : (s : Schedule) → Full
             ∙ ap (λ (t : List ℕ). over t held) (sym (rows_more M p W s) ∙ ap (outcome_rows M p) (sym (from_more M p from k within s next reached)))
 
 -- ---- what is found first is the next one
-module _ (M : Model) (L : Laws M) (p : Program) (eight : (s : Schedule) → Full M p s → length (outcome_under M p s).memory ≡ 8) (rows : List ℕ) (k : ℕ) (known : Known M p rows k)
-    (r : Coming) (e : found_of r ≡ find (λ s. is_new rows k (outcome_under M p s)) (list_of M p)) where
+module _ (M : Model) (L : Laws M) (p : Program) (eight : (s : Schedule) → Full M p s → length (outcome_under M p s).memory ≡ 8) (rows : List ℕ) (k : ℕ) (known : Known M p rows k) where
   -- the schedule found is the next one
-  pub found_next : r.found ≡ true → member (firsts_of M p) k ≡ some (take r.steps r.schedule)
-  found_next f = sym (new_next M L p eight rows k known (found_of r) e) ∙ found_some r f
+  pub found_next : (s : Schedule) → some s ≡ find (λ s. is_new rows k (outcome_under M p s)) (list_of M p) → member (firsts_of M p) k ≡ some s
+  found_next s e = sym (new_next M L p eight rows k known (some s) e)
 
   -- none is found: there are no more
-  pub none_next : r.found ≡ false → length (firsts_of M p) ≤ k
-  none_next f = (member_ends (firsts_of M p) k).0 (sym (new_next M L p eight rows k known (found_of r) e) ∙ found_none r f)
+  pub none_next : none ≡ find (λ s. is_new rows k (outcome_under M p s)) (list_of M p) → length (firsts_of M p) ≤ k
+  none_next e = (member_ends (firsts_of M p) k).0 (sym (new_next M L p eight rows k known none e))
 
 -- ---- at the end
 module _ (M : Model) (L : Laws M) (p : Program) (eight : (s : Schedule) → Full M p s → length (outcome_under M p s).memory ≡ 8)

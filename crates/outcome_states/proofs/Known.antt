@@ -1,12 +1,11 @@
 -- ROWS OF THE FIRST SO MANY OUTCOMES, in any memory model: what is new to them first is the next one, and with its row they are one more.
 use Prim.Native.Nat.{ℕ, ◌+◌, ◌*◌, ◌≤◌}
 use mathlib.Core.Path.{◌≡◌, refl, sym, ap, subst, ◌∙◌}
-use mathlib.Core.Logic.{◌⊎◌, inl, inr, ⊎_elim}
+use mathlib.Core.Logic.{⊎_elim}
 use mathlib.Core.Bool.{Bool, true, false, not}
-use mathlib.Core.Option.{Option, none, some}
+use mathlib.Core.Option.{Option, some}
 use mathlib.Core.List.Memᴰ
 use mathlib.Core.List.{List, [], ◌∷◌, ◌++◌, Memᴰ}
-use native.Mathlib.Omega.{arith}
 use lib.ListN.{length, take}
 use lib.Seq.{paste, take_all}
 use Rattle.spec_file.specs.Program.{Program}
@@ -20,7 +19,7 @@ use Rattle.spec_model.specs.Model.{Model, Full}
 use Rattle.spec_model.specs.Laws.{Laws}
 use Rattle.spec_model.specs.Alike.{list_of}
 use Rattle.spec_model.proofs.TheList.{list_exact}
-use Rattle.spec_members.proofs.Numbered.{member_in, member_ends}
+use Rattle.spec_members.proofs.Numbered.{member_in}
 use Rattle.spec_covers.specs.declared.outcome.Outcome.{Outcome}
 use Rattle.spec_across.specs.Under.{outcome_under}
 use Rattle.spec_across.proofs.Attained.{comes_to, comes_is}

@@ -1,21 +1,15 @@
--- MARKS IN EITHER MEMORY MODEL: a table that says nothing is true, and marks stay true with one row more; what a walk found, with room for 48 steps.
+-- MARKS IN EITHER MEMORY MODEL: a table that says nothing is true, and marks stay true with one row more.
 use Prim.Native.Nat.{ℕ, ◌+◌, ◌*◌, ◌≤◌}
-use mathlib.Core.Path.{◌≡◌, refl, sym, ap, subst, ◌∙◌}
-use mathlib.Core.Bool.{Bool, true, cond}
-use mathlib.Core.Option.{none, some}
+use mathlib.Core.Path.{◌≡◌, sym, subst}
+use mathlib.Core.Bool.{true}
+use mathlib.Core.Option.{some}
 use mathlib.Core.List.{List}
-use lib.ListN.{length, take, drop}
-use lib.Seq.{paste, length-take-le}
-use Rattle.spec_file.specs.Over.{over}
+use lib.ListN.{length, drop}
+use lib.Seq.{paste}
 use Rattle.spec_file.specs.Program.{Program}
-use Rattle.spec_file.proofs.Over.{take_over}
-use Rattle.spec_schedules.specs.Lists.{find}
 use Rattle.spec_schedules.specs.Order.{Schedule}
-use Rattle.spec_model.specs.Alike.{list_of}
 use Rattle.spec_model.specs.Laws.{Admitted}
-use Rattle.spec_sc.specs.Sequential.{sc}
 use Rattle.spec_covers.specs.declared.outcome.Outcome.{Outcome}
-use Rattle.spec_covers.specs.Covers.{outcome_of}
 use Rattle.spec_across.specs.Under.{outcome_under}
 use Rattle.listing_model.specs.declared.memory.Model.{Model}
 use Rattle.listing_model.specs.declared.memory.Model.TheVariants.{Sequential, TotalStoreOrder}
@@ -25,12 +19,6 @@ use Rattle.theory_outcomes.proofs.Passing as ScPassing
 use Rattle.theory_tso_outcomes.specs.Passing as TsoMarked
 use Rattle.theory_tso_outcomes.proofs.Passing as TsoPassing
 use Rattle.table.specs.Places.{said}
-use Rattle.outcome_lists.specs.declared.coming.Coming.{Coming}
-use Rattle.outcome_lists.specs.FoundOf.{found_of}
-use Rattle.states_walk.specs.FoundOf as ScWalk
-use Rattle.states_walk.specs.declared.seeking.First as ScFirst
-use Rattle.tso_states.specs.FoundOf as TsoWalk
-use Rattle.tso_states.specs.declared.seeking.First as TsoFirst
 use Rattle.states_outcomes.specs.Rows.{row_of, is_new}
 use Rattle.states_outcomes.specs.Swept.{Silent}
 use Rattle.states_outcomes.specs.declared.known.Frame.{Frame}
@@ -38,32 +26,6 @@ use Rattle.states_outcomes.proofs.RowLists.{row_adds, adds_fewer}
 use Rattle.states_outcomes.proofs.Parts as ScMarks
 use Rattle.tso_outcomes.proofs.FirstNew as TsoMarks
 use Rattle.outcome_states.specs.Marks.{Marks}
-
--- ---- what was found
--- the first steps copied to the front of a buffer
-pub found_wide : (found : Bool) (s held : List ℕ) (n : ℕ) (c : Coming) → n ≤ length s → c.found ≡ found → c.steps ≡ n → c.schedule ≡ over (take n s) held
-    → found_of c ≡ cond found (some (take n s)) none
-unfolding found_of
-found_wide found s held n c h f e is =
-    ap (λ (b : Bool). cond b (some (take c.steps c.schedule)) none) f ∙ ap (λ (t : Schedule). cond found (some t) none) same
-  where
-    same : take c.steps c.schedule ≡ take n s
-    same =
-        let k = length-take-le n s h in
-        ap (λ (i : ℕ). take i c.schedule) e ∙ ap (take n) is ∙ ap (λ (i : ℕ). take i (over (take n s) held)) (sym k) ∙ take_over (take n s) held
-
-pub found_sc : (r : ScFirst.First) → cond r.found (some (take r.steps r.schedule)) none ≡ ScWalk.found_of r
-unfolding ScWalk.found_of
-found_sc r = refl
-
-pub found_tso : (r : TsoFirst.First) → cond r.found (some (take r.steps r.schedule)) none ≡ TsoWalk.found_of r
-unfolding TsoWalk.found_of
-found_tso r = refl
-
--- under sequential consistency outcomes are what they are in one model
-pub by_under : (p : Program) (rows : List ℕ) (k : ℕ) → find (λ s. is_new rows k (outcome_of p s)) (list_of sc p) ≡ find (λ s. is_new rows k (outcome_under sc p s)) (list_of sc p)
-unfolding outcome_under outcome_of
-by_under p rows k = refl
 
 -- ---- marks
 -- the frame of a walk

@@ -1,5 +1,5 @@
 -- THE FIRST SO MANY OUTCOMES of a program: in words, one row of nine behind the other, and those from a number on in an output.
-use Rattle.std.specs.Prelude.{ℕ, ◌+◌, ◌*◌, ◌≤◌, ◌≡◌, true, List, length, take, drop}
+use Rattle.std.specs.Prelude.{ℕ, ◌+◌, ◌*◌, ◌≤◌, ◌≡◌, true, List, length, take, drop, Option, IfSome}
 use Rattle.std.proofs.Math.Seq.{paste}
 use Rattle.spec_file.specs.Over.{over}
 use Rattle.spec_file.specs.Program.{Program}
@@ -46,11 +46,11 @@ pub record Gathers (M : Model) (p : Program) (cut limit from : ℕ) (lent lent' 
   -- in the output stand the rows of those from the number on
   pub output : out' ≡ over (outcome_rows M p (drop from (take r.known (firsts_of M p)))) out
 
--- what stands before `cut` where outcomes are gathered as a set
-pub record Holds (M : Model) (p : Program) (cut : ℕ) (lent lent' : List ℕ) (r : Gathering) : Type 0 where
+-- what stands before `cut` where outcomes are gathered as a set: where it is told how many they are
+pub record Holds (M : Model) (p : Program) (cut : ℕ) (lent lent' : List ℕ) (r : Option ℕ) : Type 0 where
   -- as many words as there were
   pub words : length lent' ≡ length lent
   -- the rows stand before `cut`
-  pub room : 9 * r.known ≤ cut
-  -- where all were gathered they are all outcomes
-  pub exact : r.all ≡ true → Exactly M p (take cut lent') r.known
+  pub room : IfSome r (λ k. 9 * k ≤ cut)
+  -- and are all outcomes
+  pub exact : IfSome r (λ k. Exactly M p (take cut lent') k)

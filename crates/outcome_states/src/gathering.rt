@@ -9,13 +9,13 @@ ghost use Rattle.spec_outcomes.specs.Firsts.{firsts_of};
 ghost use Rattle.spec_outcomes.specs.OutcomesCall.{outcome_size};
 ghost use Rattle.outcome_states.specs.Gathered.{Gathers, Keeps};
 
+use crate::framing::fresh;
 use crate::keeping::show;
 use crate::seeking::{key_width, next_new};
 use file_decoder::Compiled;
 use listing_model::Model;
-use outcome_lists::{Coming, outcome_of};
-use states_outcomes::{Frame, note, unmark};
-use table::slots;
+use outcome_lists::outcome_of;
+use states_outcomes::{Frame, note};
 
 // Whether all were gathered, and how many rows they are.
 #[derive(Clone, Copy)]
@@ -24,40 +24,29 @@ pub struct Gathering {
     pub known: usize,
 }
 
-// The smaller of two numbers.
-fn smaller(a: usize, b: usize) -> usize
-    ensures { (result ≤ a) × (result ≤ b) }
-{
-    if a < b {
-        return a;
-    }
-    b
-}
-
 // Keeps the outcome of the schedule number k as a row before `cut`, and shows it in the output where k is not below `from`.
 fn keep(
     model: Model,
     program: Compiled,
-    r: Coming,
+    steps: &[u8],
     k: usize,
     cut: usize,
     from: usize,
     out: &mut [u8],
     lent: &mut [u64],
 )
-    requires { Admitted (model_of model) (program_of program) × (r.steps ≤ (model_of model).need) × (9 * k + 9 ≤ cut) × (cut ≤ length lent.old)
+    requires { Admitted (model_of model) (program_of program) × (length steps.now ≤ (model_of model).need) × (9 * k + 9 ≤ cut)
+        × (cut ≤ length lent.old)
         × (from ≤ k → k - from < length out.old / outcome_size (model_of model)) }
     ensures words { (length lent.new ≡ length lent.old) × (drop cut lent.new ≡ drop cut lent.old)
         × (length out.new ≡ length out.old) }
-    ensures kept { member (firsts_of (model_of model) (program_of program)) k ≡ some (take r.steps r.schedule)
-        → Keeps (model_of model) (program_of program) (take r.steps r.schedule) k cut from lent.old lent.new
+    ensures kept { member (firsts_of (model_of model) (program_of program)) k ≡ some steps.now
+        → Keeps (model_of model) (program_of program) steps.now k cut from lent.old lent.new
         out.old out.new }
 {
-    let schedule = r.schedule;
-    let n = r.steps;
-    let o = outcome_of(model, program, &schedule[..n]);
+    let o = outcome_of(model, program, steps);
     note(o, k, cut, lent);
-    show(model, o, &schedule[..n], k, from, out);
+    show(model, o, steps, k, from, out);
 }
 
 // The first outcomes of a listed program as rows before `cut`, as far as there is room, and no more than a limit; those from a number on also
@@ -76,30 +65,19 @@ pub fn gathered(
     ensures { Gathers (model_of model) (program_of program) cut limit from lent.old lent.new
         out.old out.new result }
 {
-    let width = key_width(model, program);
-    let count = slots(lent.len() - cut, width, 0);
-    unmark(lent, cut);
-    let room = smaller(cut / 9, limit);
-    let mut k = 0;
-    while k < room {
-        let frame = Frame {
-            width: width,
-            slots: count,
-            cut: cut,
-            known: k,
-        };
-        let r = next_new(model, program, frame, lent);
-        if !r.found {
+    let frame = fresh(key_width(model, program), cut, 0, lent);
+    let room = limit.min(cut / 9);
+    for k in 0..room {
+        let Some(s) = next_new(model, program, Frame { known: k, ..frame }, lent) else {
             return Gathering {
                 all: true,
                 known: k,
             };
-        }
-        keep(model, program, r, k, cut, from, out, lent);
-        k += 1;
+        };
+        keep(model, program, s.as_slice(), k, cut, from, out, lent);
     }
     Gathering {
         all: false,
-        known: k,
+        known: room,
     }
 }

@@ -1,6 +1,8 @@
 // All outcomes of a program into lent words, by states in either memory model.
 #![tactic(auto)]
 
+// Lent words divided anew.
+mod framing;
 // An outcome shown as a row of bytes.
 mod keeping;
 // The first listed schedule with an outcome that is not known.

@@ -1,6 +1,4 @@
 -- The laws, in the order in which they rest on each other.
--- two schedules compared step by step
-pub mod Compared
 -- the list walked for its firsts
 pub mod Walked
 -- a page of one row

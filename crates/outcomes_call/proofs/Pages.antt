@@ -1,15 +1,16 @@
 -- WHAT WAS GATHERED IS THE PAGE, where it is all or as many as were asked for; and what the list gives stands over it else.
-use Prim.Native.Nat.{ℕ, zero, suc, ◌+◌, ◌-◌, ◌*◌, ◌/◌, ◌^◌, ◌<◌, ◌≤◌, min}
-use mathlib.Core.Path.{◌≡◌, refl, sym, ap, subst, ◌∙◌}
-use mathlib.Core.Bool.{Bool, cond, true, false}
-use mathlib.Core.List.{List, [], ◌∷◌, ◌++◌, flat_map, append_assoc, append-nil}
+use Rattle.std.specs.Prelude.{Result, Ok, Err}
+use Prim.Native.Nat.{ℕ, zero, suc, ◌+◌, ◌-◌, ◌/◌, ◌^◌, ◌<◌, ◌≤◌}
+use mathlib.Core.Path.{◌≡◌, refl, sym, ap, ◌∙◌}
+use mathlib.Core.Bool.{Bool, cond}
+use mathlib.Core.List.{List, [], ◌∷◌, ◌++◌, flat_map, append_assoc}
 use native.Mathlib.Nat.{div-eq_of_lt}
 use native.Mathlib.Omega.{arith}
 use native.Mathlib.Decide.{dec_lt}
-use lib.Dec.{ltb}
 use lib.ListN.{length, take, drop, length-append, length-take, length-drop, take-append-drop, drop_of_length-le}
 use lib.Seq.{take_all, take-take, length-take-le, drop-append-le, drop-append-add, drop-drop}
 use borrow.Author.Tests.{lt-ltb, le-ltb}
+use Rattle.spec_file.specs.declared.refusal.Refusal.{Refusal}
 use Rattle.spec_file.specs.Over.{over}
 use Rattle.spec_file.specs.Program.{Program}
 use Rattle.spec_file.specs.Decode.{Decoded, accepted, refused, decode}
@@ -18,8 +19,6 @@ use Rattle.spec_schedules.specs.Order.{Schedule}
 use Rattle.spec_model.specs.Model as Memory
 use Rattle.spec_model.specs.OnFile.{admit}
 use Rattle.spec_calls.specs.Scratch.{zeros}
-use Rattle.spec_calls.specs.declared.rows_answer.RowsAnswer.{RowsAnswer}
-use Rattle.spec_calls.specs.declared.rows_answer.RowsAnswer.TheVariants.{Written, Refused}
 use Rattle.listing_model.specs.declared.memory.Model.{Model}
 use Rattle.listing_model.specs.declared.memory.Model.TheVariants.{Sequential, TotalStoreOrder}
 use Rattle.listing_model.specs.ModelOf.{model_of}
@@ -105,36 +104,46 @@ module _ (M : Memory.Model) (p : Program) where
           )
 
 -- ---- on a file
-module _ (M : Memory.Model) (file : List ℕ) (from : ℕ) (out scratch : List ℕ) where
-  abbrev Said : RowsAnswer → List ℕ → List ℕ → Type 0
-  Said r out' scratch' = (r ≡ outcomes_file M file from out) × ((out' ≡ outcomes_output M file from out) × (scratch' ≡ outcomes_scratch (outcomes_file M file from out) scratch))
+-- the answers as the code gives them
+abbrev pub written : ℕ → Result ℕ Refusal
+written n = Ok n
 
-  pub said_refused : (n k : ℕ) → admit M (decode file) ≡ refused n k → Said (Refused n k) out scratch
+abbrev pub refusal : ℕ → ℕ → Result ℕ Refusal
+refusal n k = Err (record { number = n; place = k })
+
+module _ (M : Memory.Model) (file : List ℕ) (from : ℕ) (out scratch : List ℕ) where
+  pub record Said (r : Result ℕ Refusal) (out' scratch' : List ℕ) : Type 0 where
+    pub answer : r ≡ outcomes_file M file from out
+    pub output : out' ≡ outcomes_output M file from out
+    pub later : scratch' ≡ outcomes_scratch (outcomes_file M file from out) scratch
+
+  pub said_refused : (n k : ℕ) → admit M (decode file) ≡ refused n k → Said (refusal n k) out scratch
   unfolding outcomes_on output_on outcomes_scratch
   said_refused n k e =
-      let a : Refused n k ≡ outcomes_file M file from out = ap (λ (d : Decoded). outcomes_on M d from out) (sym e) in
-      (a, (ap (λ (d : Decoded). output_on M d from out) (sym e), ap (λ (r : RowsAnswer). outcomes_scratch r scratch) a))
+      let a : refusal n k ≡ outcomes_file M file from out = ap (λ (d : Decoded). outcomes_on M d from out) (sym e) in
+      record { answer = a; output = ap (λ (d : Decoded). output_on M d from out) (sym e); later = ap (λ (r : Result ℕ Refusal). outcomes_scratch r scratch) a }
 
   module _ (p : Program) (e : admit M (decode file) ≡ accepted p) where
-    pub said_short : length out < outcome_size M → Said (Refused 22 0) out scratch
+    pub said_short : length out < outcome_size M → Said (refusal 22 0) out scratch
     unfolding outcomes_on output_on outcomes_scratch page_of
     said_short h =
-        let a : Refused 22 0 ≡ outcomes_file M file from out = sym (ap (λ (d : Decoded). outcomes_on M d from out) e
-        ∙ ap (λ (b : Bool). cond b (Refused 22 0) (Written (length (page_of M p from out)))) (lt-ltb (length out) (outcome_size M) h)) in
-        let none : page_of M p from out ≡ [] = ap (λ (n : ℕ). take n (drop from (firsts_of M p))) (div-eq_of_lt h) in (
-          a,
-          (
-            sym (ap (λ (d : Decoded). output_on M d from out) e ∙ ap (λ (l : List Schedule). over (outcome_rows M p l) out) none ∙ ap (λ (t : List ℕ). over t out) (rows_none M p) ∙ over_nil out),
-            ap (λ (r : RowsAnswer). outcomes_scratch r scratch) a,
-          ),
-        )
+        let a : refusal 22 0 ≡ outcomes_file M file from out = sym (ap (λ (d : Decoded). outcomes_on M d from out) e
+        ∙ ap (λ (b : Bool). cond b (refusal 22 0) (written (length (page_of M p from out)))) (lt-ltb (length out) (outcome_size M) h)) in
+        let none : page_of M p from out ≡ [] = ap (λ (n : ℕ). take n (drop from (firsts_of M p))) (div-eq_of_lt h) in
+        record {
+          answer = a;
+          output = sym (ap (λ (d : Decoded). output_on M d from out) e ∙ ap (λ (l : List Schedule). over (outcome_rows M p l) out) none ∙ ap (λ (t : List ℕ). over t out) (rows_none M p) ∙ over_nil out);
+          later = ap (λ (r : Result ℕ Refusal). outcomes_scratch r scratch) a;
+        }
 
     pub said_rows : outcome_size M ≤ length out → (n : ℕ) (out' scratch' : List ℕ) → n ≡ length (page_of M p from out) → out' ≡ over (outcome_rows M p (page_of M p from out)) out → scratch' ≡ zeros scratch
-        → Said (Written n) out' scratch'
+        → Said (written n) out' scratch'
     unfolding outcomes_on output_on outcomes_scratch
-    said_rows h n out' scratch' count put later =
-        let b : outcomes_file M file from out ≡ Written (length (page_of M p from out)) = ap (λ (d : Decoded). outcomes_on M d from out) e
-        ∙ ap (λ (b : Bool). cond b (Refused 22 0) (Written (length (page_of M p from out)))) (le-ltb (length out) (outcome_size M) h) in (
-          ap {B = RowsAnswer} (λ k. Written k) count ∙ sym b,
-          (put ∙ sym (ap (λ (d : Decoded). output_on M d from out) e), later ∙ ap (λ (r : RowsAnswer). outcomes_scratch r scratch) (sym b)),
-        )
+    said_rows h n out' scratch' count put cleared =
+        let b : outcomes_file M file from out ≡ written (length (page_of M p from out)) = ap (λ (d : Decoded). outcomes_on M d from out) e
+        ∙ ap (λ (b : Bool). cond b (refusal 22 0) (written (length (page_of M p from out)))) (le-ltb (length out) (outcome_size M) h) in
+        record {
+          answer = ap (λ (k : ℕ). written k) count ∙ sym b;
+          output = put ∙ sym (ap (λ (d : Decoded). output_on M d from out) e);
+          later = cleared ∙ ap (λ (r : Result ℕ Refusal). outcomes_scratch r scratch) (sym b);
+        }

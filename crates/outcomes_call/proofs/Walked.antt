@@ -1,12 +1,15 @@
 -- THE LIST WALKED FOR ITS FIRSTS, one schedule after the other.
-use Prim.Native.Nat.{ℕ, zero, suc, ◌+◌, ◌-◌, ◌*◌, ◌/◌, ◌<◌, ◌≤◌}
+use Prim.Native.Nat.{ℕ, zero, suc, ◌+◌, ◌-◌, ◌*◌, ◌<◌}
 use mathlib.Core.Path.{◌≡◌, refl, sym, ap, subst, ◌∙◌}
-use mathlib.Core.Bool.{Bool, true, false, true≢false}
-use mathlib.Core.Option.{Option, none, some}
+use mathlib.Core.Bool.{Bool, true, false, not, true≢false}
+use mathlib.Core.Option.{none, some}
 use mathlib.Core.Logic.{◌⊎◌, inl, inr, ⊎_elim}
 use mathlib.Core.List.Memᴰ
 use mathlib.Core.List.{List, [], ◌∷◌, ◌++◌, flat_map, append_assoc, append-nil, Memᴰ}
 use native.Mathlib.Omega.{arith}
+use lib.Dec.{eqb}
+use lib.Pointwise.{pointwise}
+use Rattle.std.proofs.lemmas.Slice.Eq.{bytes_eq-Decides}
 use lib.ListN.{length, take, drop, length-append, drop_of_length-le}
 use lib.Seq.{take_all}
 use Rattle.spec_file.specs.Over.{over}
@@ -17,25 +20,33 @@ use Rattle.spec_schedules.specs.Order.{Schedule}
 use Rattle.spec_schedules.proofs.FirstIn.{find_in, none_find}
 use Rattle.spec_schedules.proofs.Kept.{filter_nil}
 use Rattle.spec_schedules.proofs.Lists.{filter_yes, filter_no}
-use Rattle.spec_schedules.proofs.Order.{not_less_at_most}
-use Rattle.spec_model.specs.Model.{Model, Full}
+use Rattle.spec_model.specs.Model.{Model}
 use Rattle.spec_model.specs.Laws.{Laws}
 use Rattle.spec_model.specs.Alike.{list_of}
-use Rattle.spec_model.proofs.TheList.{list_ascends, list_exact}
+use Rattle.spec_model.proofs.TheList.{list_ascends}
 use Rattle.spec_calls.specs.Rows.{row_bytes}
 use Rattle.spec_covers.specs.declared.outcome.Outcome.{Outcome}
 use Rattle.spec_across.specs.Under.{outcome_under}
 use Rattle.spec_across.proofs.Attained.{comes_to, comes_is}
 use Rattle.spec_outcomes.specs.Firsts.{is_first, firsts_of}
-use Rattle.spec_outcomes.specs.OutcomesCall.{four_bytes, outcome_size, outcome_row, outcome_rows, page_of}
+use Rattle.spec_outcomes.specs.OutcomesCall.{four_bytes, outcome_size, outcome_rows}
 use Rattle.spec_outcomes.proofs.Same.{is_comes}
-use Rattle.spec_outcomes.proofs.Firsts.{first_none, none_first, first_in, in_first, firsts_once}
-use Rattle.outcome_lists.specs.declared.coming.Coming.{Coming}
-use Rattle.outcome_lists.specs.FoundOf.{found_of}
-use Rattle.outcome_lists.proofs.Found.{found_none, found_some}
+use Rattle.spec_outcomes.proofs.Firsts.{none_first, first_in, in_first, firsts_once}
 use Rattle.outcome_states.proofs.Shown.{row_is, rows_none, rows_more, rows_length}
 use Rattle.outcomes_call.specs.declared.by_lists.Tally.{Tally}
 use Rattle.outcomes_call.specs.Walked.{Walks}
+
+-- whether two schedules differ, as the code asks it
+module _ (a b : List ℕ) (t : Bool) (e : t ≡ not (pointwise eqb a b)) where
+  pub differ : t ≡ true → a ≡ b → ⊥
+  differ q i = true≢false (sym q ∙ e ∙ ap not ((bytes_eq-Decides a b).1 i))
+
+  pub agree : t ≡ false → a ≡ b
+  agree q = (bytes_eq-Decides a b).0 (not_false (pointwise eqb a b) (sym e ∙ q))
+    where
+      not_false : (t : Bool) → not t ≡ false → t ≡ true
+      not_false true i = refl
+      not_false false i = absurd (true≢false i)
 
 module _ (M : Model) (L : Laws M) (p : Program) where
   abbrev F : List Schedule
@@ -63,16 +74,12 @@ module _ (M : Model) (L : Laws M) (p : Program) where
         go false q = q
 
   -- the first listed one with the outcome of a listed schedule is found
-  pub coming_some : (s : Schedule) → Memᴰ s (list_of M p) → (x : Outcome) → x ≡ o s → (r : Coming) → found_of r ≡ find (comes_to M p x) (list_of M p)
-      → find (comes_to M p (o s)) (list_of M p) ≡ some (take r.steps r.schedule)
-  coming_some s m x is r e = go r.found refl
-    where
-      same : found_of r ≡ find (comes_to M p (o s)) (list_of M p)
-      same = e ∙ ap (λ (y : Outcome). find (comes_to M p y) (list_of M p)) is
+  module _ (s : Schedule) (m : Memᴰ s (list_of M p)) (x : Outcome) (is : x ≡ o s) where
+    pub coming_some : (t : Schedule) → some t ≡ find (comes_to M p x) (list_of M p) → find (comes_to M p (o s)) (list_of M p) ≡ some t
+    coming_some t e = ap (λ (y : Outcome). find (comes_to M p y) (list_of M p)) (sym is) ∙ sym e
 
-      go : (b : Bool) → r.found ≡ b → find (comes_to M p (o s)) (list_of M p) ≡ some (take r.steps r.schedule)
-      go true q = sym same ∙ found_some r q
-      go false q = absurd (true≢false (sym (is_comes M p (o s) s refl) ∙ none_find (comes_to M p (o s)) (list_of M p) (sym same ∙ found_none r q) s m))
+    pub not_none : none ≡ find (comes_to M p x) (list_of M p) → ⊥
+    not_none e = true≢false (sym (is_comes M p x s (sym is)) ∙ none_find (comes_to M p x) (list_of M p) (sym e) s m)
 
   module _ (from room : ℕ) (held : List ℕ) where
     abbrev W : List Schedule → Tally → List ℕ → Type 0
@@ -142,7 +149,7 @@ module _ (M : Model) (L : Laws M) (p : Program) where
       -- a first whose row is written
       pub walks_row : is_first M p s ≡ true → t.left ≡ 0 → t.rows < room → (x : Outcome) → x ≡ o s → length x.memory ≡ 8 → (out' : List ℕ) → length out ≡ length held
           → ((l u : List ℕ) → out ≡ over l u → length l ≡ (t.rows - 0) * outcome_size M → length out ≡ length u → out' ≡ over (l ++ (flat_map four_bytes x.memory ++ row_bytes M.need s x.fails)) u)
-          → W (s ∷ rest) t out → W rest (record { left = 0; rows = t.rows + 1 }) out'
+          → W (s ∷ rest) t out → W rest (record { left = t.left; rows = t.rows + 1 }) out'
       walks_row e z h x is eight out' same put w = record {
         written = w.written ++ (s ∷ []);
         counted = let c = w.counted in sym (length-append w.written (s ∷ []) ∙ omega (arith, c));
@@ -151,7 +158,7 @@ module _ (M : Model) (L : Laws M) (p : Program) where
         shown = put (outcome_rows M p w.written) held w.shown long same
             ∙ ap (λ (r : List ℕ). over (outcome_rows M p w.written ++ r) held) (row_is M p s x is)
             ∙ ap (λ (r : List ℕ). over r held) (sym (rows_more M p w.written s));
-        whole = append_assoc w.written (s ∷ []) (take (room - (t.rows + 1)) G)
+        whole = ap (λ (n : ℕ). (w.written ++ (s ∷ [])) ++ take (room - (t.rows + 1)) (drop n G)) z ∙ append_assoc w.written (s ∷ []) (take (room - (t.rows + 1)) G)
             ∙ ap (λ (l : List Schedule). w.written ++ l) (sym (ap (take (room - t.rows)) (ap (λ (n : ℕ). drop n (filter (is_first M p) (s ∷ rest))) z ∙ filter_yes (is_first M p) s rest e) ∙ take_one (room - t.rows) (omega (arith, h))
             ∙ ap (λ (n : ℕ). s ∷ take n G) one_less))
             ∙ w.whole;

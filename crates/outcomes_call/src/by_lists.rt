@@ -1,5 +1,5 @@
 // The outcomes by the list: of each listed schedule it is asked whether it is the first with its outcome.
-ghost use Rattle.std.specs.Prelude.{◌≡◌, ℕ, ◌≤◌, ◌/◌, ◌<◌, length, take};
+ghost use Rattle.std.specs.Prelude.{◌≡◌, ℕ, ◌/◌, ◌<◌, length};
 ghost use mathlib.Core.List.{List, ◌∷◌, Memᴰ};
 ghost use Rattle.spec_file.specs.Over.{over};
 ghost use Rattle.file_decoder.specs.Compiled.{program_of};
@@ -10,12 +10,11 @@ ghost use Rattle.listing_model.specs.ModelOf.{model_of};
 ghost use Rattle.spec_outcomes.specs.OutcomesCall.{outcome_size, outcome_rows, page_of};
 ghost use Rattle.outcomes_call.specs.Walked.{Walks};
 
-use crate::comparing::same;
 use file_decoder::Compiled;
 use listing_cursor::{beginning, is_end};
 use listing_model::Model;
 use listing_pages::next_page;
-use outcome_lists::{Coming, first_coming, outcome_of, row_at};
+use outcome_lists::{first_coming, outcome_of, row_at};
 use outcome_states::show;
 
 // How many firsts are still passed over, and how many rows are written.
@@ -26,31 +25,31 @@ pub struct Tally {
 }
 
 // One listed schedule: where it is the first with its outcome, it is passed over or its row written.
-fn turn(model: Model, program: Compiled, s: Coming, t: Tally, out: &mut [u8]) -> Tally
-    requires { Admitted (model_of model) (program_of program) × (s.steps ≤ 48) × (t.rows < length out.old / outcome_size (model_of model))
-        × Memᴰ (take s.steps s.schedule) (list_of (model_of model) (program_of program)) }
+fn turn(model: Model, program: Compiled, s: &[u8], t: Tally, out: &mut [u8]) -> Tally
+    requires { Admitted (model_of model) (program_of program) × (t.rows < length out.old / outcome_size (model_of model))
+        × Memᴰ s.now (list_of (model_of model) (program_of program)) }
     ensures { (from room : ℕ) (held : List ℕ) (rest : List Schedule) → room ≡ length held / outcome_size (model_of model)
         → length out.old ≡ length held
-        → Walks (model_of model) (program_of program) from room held (take s.steps s.schedule ∷ rest) t out.old
+        → Walks (model_of model) (program_of program) from room held (s.now ∷ rest) t out.old
         → (length out.new ≡ length held) × Walks (model_of model) (program_of program) from room held rest result out.new }
 {
-    let schedule = s.schedule;
-    let n = s.steps;
-    let o = outcome_of(model, program, &schedule[..n]);
-    let first = first_coming(model, program, o);
-    if !same(s, first) {
+    let o = outcome_of(model, program, s);
+    let Some(first) = first_coming(model, program, o) else {
+        return t;
+    };
+    if first.as_slice() != s {
         return t;
     }
     if 0 < t.left {
         return Tally {
             left: t.left - 1,
-            rows: t.rows,
+            ..t
         };
     }
-    show(model, o, &schedule[..n], t.rows, 0, out);
+    show(model, o, s, t.rows, 0, out);
     Tally {
-        left: 0,
         rows: t.rows + 1,
+        ..t
     }
 }
 
@@ -82,9 +81,7 @@ pub(crate) fn by_lists(
         if page.rows == 0 {
             return t.rows;
         }
-        let s = row_at(model, &row, 0);
-        let more = turn(model, program, s, t, out);
-        t = more;
+        t = turn(model, program, row_at(model, &row, 0).as_slice(), t, out);
         cursor = page.cursor;
     }
     t.rows

@@ -1,8 +1,6 @@
 // The call that gives all outcomes of a program, each with the first listed schedule that has it.
 #![tactic(auto)]
 
-// Whether two schedules are the same.
-mod comparing;
 // The outcomes by the list, where words have no room for them.
 mod by_lists;
 // The call.

@@ -13,18 +13,8 @@ use file_decoder::Compiled;
 use listing_model::{Model, width};
 use listing_replay::admitted;
 use outcome_states::gathered;
-use spec_calls::RowsAnswer;
+use spec_file::Refusal;
 use table::clear;
-
-// By how much the first number exceeds the second.
-fn beyond(a: usize, b: usize) -> usize
-    ensures { result ≡ a - b }
-{
-    if a < b {
-        return 0;
-    }
-    a - b
-}
 
 // The rows of a listed program from a number on, by states; where words have no room for all that are asked for, by the list.
 fn outcomes_of(
@@ -52,7 +42,7 @@ fn outcomes_of(
     clear(scratch);
     let known = g.known;
     if g.all {
-        return beyond(known, from);
+        return known.saturating_sub(from);
     }
     if known == limit {
         return room;
@@ -67,23 +57,18 @@ pub fn outcomes(
     from: usize,
     out: &mut [u8],
     scratch: &mut [u64],
-) -> RowsAnswer
+) -> Result<usize, Refusal>
     ensures answer { result ≡ outcomes_file (model_of model) file.now from out.old }
     ensures output { out.new ≡ outcomes_output (model_of model) file.now from out.old }
     ensures later { scratch.new
         ≡ outcomes_scratch (outcomes_file (model_of model) file.now from out.old) scratch.old }
 {
-    let a = admitted(model, file);
-    let v = a.verdict;
-    match v {
-        file_decoder::Verdict::Refused(number, place) => RowsAnswer::Refused(number, place),
-        file_decoder::Verdict::Accepted => {
-            if out.len() < width(model) + 34 {
-                return RowsAnswer::Refused(22, 0);
-            }
-            let p = a.program;
-            let n = outcomes_of(model, p, from, out, scratch);
-            RowsAnswer::Written(n)
-        }
+    let program = admitted(model, file)?;
+    if out.len() < width(model) + 34 {
+        return Err(Refusal {
+            number: 22,
+            place: 0,
+        });
     }
+    Ok(outcomes_of(model, program, from, out, scratch))
 }

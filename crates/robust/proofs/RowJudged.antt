@@ -1,11 +1,12 @@
 -- The graph of a full schedule of total store order, as the code has it: its text is written, read back into a table, and judged.
+use Rattle.std.specs.Prelude.{Option, Some, None, is_some, Result, Ok, Err, IsOk}
 use Prim.Native.Nat.{ℕ, ◌≤◌}
 use mathlib.Core.Path.{◌≡◌, refl, sym, ap, ap₂, subst, ◌∙◌}
 use mathlib.Core.Bool.{Bool, true, false, not}
-use mathlib.Core.Option.{Option, none, some, none-ne-some}
 use mathlib.Core.List.{List}
 use native.Mathlib.Omega.{arith}
 use lib.ListN.{length, take}
+use Rattle.spec_file.specs.declared.refusal.Refusal.{Refusal}
 use Rattle.spec_file.specs.Over.{over}
 use Rattle.spec_file.specs.Program.{Program}
 use Rattle.spec_file.proofs.Over.{take_over, length_over}
@@ -15,9 +16,8 @@ use Rattle.spec_schedules.proofs.Runs.{full_allowed}
 use Rattle.spec_model.specs.Laws.{Admitted}
 use Rattle.spec_model.specs.Model.{Full, graph}
 use Rattle.spec_model.proofs.Refusing.{full_goes}
-use Rattle.spec_sc.specs.Graph.{Graph}
 use Rattle.spec_sc.specs.Text.{graph_text, text_of}
-use Rattle.spec_judge.specs.Reading.{Parsed, parsed, refused_at, read_graph}
+use Rattle.spec_judge.specs.Reading.{parsed, refused_at, read_graph}
 use Rattle.spec_judge.proofs.Walk.{judge}
 use Rattle.spec_tso.specs.State.{TSO, start}
 use Rattle.spec_tso.specs.TotalStoreOrder.{tso}
@@ -28,28 +28,19 @@ use Rattle.graph_writer.specs.Notes.{Note, Noted}
 use Rattle.graph_writer.specs.NoteText.{note_frames}
 use Rattle.graph_writer.proofs.NoteLength.{notes_400}
 use Rattle.graph_reader.specs.declared.table.Table.{Table}
-use Rattle.graph_reader.specs.declared.text.Verdict.TheVariants as Text
-use Rattle.graph_reader.specs.declared.text.Verdict as Text-2
 use Rattle.graph_reader.specs.Held.{Tabled, ReadAs}
+use Rattle.listing_cursor.specs.declared.steps.Steps.{Steps}
 use Rattle.judge.specs.HeldYes.{JudgedAs}
-use Rattle.machine_replay.specs.declared.replaying.Verdict.{Verdict}
-use Rattle.machine_replay.specs.declared.replaying.Verdict.TheVariants.{Whole, Refused}
-use Rattle.machine_replay.specs.Carried.{refusal_of}
-use Rattle.machine_replay.proofs.Verdicts.{refusal_refused}
+use Rattle.outcome_lists.proofs.Replays.{whole_of}
 use Rattle.tso_replay.specs.declared.replaying.Run.{Run}
 use Rattle.tso_replay.specs.Carried.{HoldsRun}
 use Rattle.tso_replay.specs.Noted.{notes}
 use Rattle.tso_replay.proofs.NotesHere.{graph_text_notes}
 use Rattle.tso_replay.proofs.FewNotes.{notes_16}
 
--- a verdict that refuses nothing
-whole_of : (v : Verdict) → refusal_of v ≡ none → v ≡ Whole
-whole_of Whole q = refl
-whole_of (Refused n k) q = absurd (none-ne-some (n, k) (sym q ∙ refusal_refused n k))
-
 module _ (p : Program) (a : Admitted tso p) (s : Schedule) (f : Full tso p s) (code lengths : List ℕ) (r : Run) (held : HoldsRun code lengths p s r) where
   made : take r.steps s ≡ s
-  made = held.all (whole_of r.verdict (held.answer ∙ full_goes TSO s 0 (start p) f))
+  made = held.all (whole_of r.end (held.answer ∙ full_goes TSO s 0 (start p) f))
 
   allowed : Allowed TSO (start p) s
   allowed = (full_allowed TSO (start p) s f).0
@@ -87,16 +78,22 @@ module _ (p : Program) (a : Admitted tso p) (s : Schedule) (f : Full tso p s) (t
   pub graph_read : read_graph threads (graph_text (graph tso p s)) ≡ parsed (graph tso p s)
   graph_read = subst (λ (n : ℕ). read_graph n (graph_text (graph tso p s)) ≡ parsed (graph tso p s)) t (tso_text_read p a s f)
 
-  module _ (text : List ℕ) (i : text ≡ graph_text (graph tso p s)) (v : Text-2.Verdict) (table : Table) where
-    pub graph_tabled : ReadAs v table (read_graph threads text) → Tabled table.pairs table.counts (graph tso p s)
-    graph_tabled k = go v (subst (ReadAs v table) (ap (read_graph threads) i ∙ graph_read) k)
-      where
-        go : (v : Text-2.Verdict) → ReadAs v table (parsed (graph tso p s)) → Tabled table.pairs table.counts (graph tso p s)
-        go Text.Passed k = let q : graph tso p s ≡ k.0 = let e = k.1 in cc in subst (Tabled table.pairs table.counts) (sym q) k.2
-        go (Text.Refused m j) k = absurd (let z : ◌≡◌ {A = ℕ} 0 1 = cc in omega arith)
+  module _ (text : List ℕ) (i : text ≡ graph_text (graph tso p s)) where
+    -- it is not refused
+    pub graph_passes : (r : Result Table Refusal) → ReadAs r (read_graph threads text) → IsOk r
+    graph_passes (Ok t) k = refl
+    graph_passes (Err r) k = let e : refused_at r.number r.place ≡ parsed (graph tso p s) = sym k ∙ ap (read_graph threads) i ∙ graph_read in cc
+
+    pub graph_tabled : (r : Result Table Refusal) → ReadAs r (read_graph threads text) → (t : Table) → r ≡ Ok t → Tabled t.pairs t.counts (graph tso p s)
+    graph_tabled r k t e =
+        let h = subst (λ (x : Result Table Refusal). ReadAs x (parsed (graph tso p s))) e (subst (ReadAs r) (ap (read_graph threads) i ∙ graph_read) k) in
+        let q : graph tso p s ≡ h.0 = let u = h.1 in cc in
+        subst (Tabled t.pairs t.counts) (sym q) h.2
 
 -- the judge's finding, and the test
-pub judged_relaxed : (p : Program) (s : Schedule) (yes : Bool) (bytes : List ℕ) (k : ℕ) → JudgedAs yes bytes k (judge p (graph tso p s)) → not yes ≡ is_relaxed p s
+pub judged_relaxed : (p : Program) (s : Schedule) (r : Option (Steps 24)) (b : Bool) → is_some r ≡ not b → JudgedAs r (judge p (graph tso p s)) → b ≡ is_relaxed p s
 unfolding is_relaxed is_no
-judged_relaxed p s true bytes k j = sym (ap is_no j.0)
-judged_relaxed p s false bytes k j = sym (ap is_no j)
+judged_relaxed p s (Some t) false q j = sym (ap is_no j.0)
+judged_relaxed p s (Some t) true q j = cc
+judged_relaxed p s None true q j = sym (ap is_no j)
+judged_relaxed p s None false q j = cc

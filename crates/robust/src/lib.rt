@@ -6,4 +6,4 @@ mod testing;
 // The call.
 mod robust_call;
 
-pub use robust_call::{RobustAnswer, robust};
+pub use robust_call::robust;

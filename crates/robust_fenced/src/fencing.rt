@@ -6,16 +6,14 @@ ghost use Rattle.file_rows.specs.Rows.{thread_code};
 ghost use Rattle.machine.specs.Held.{Loaded};
 ghost use Rattle.spec_fenced.specs.Fenced.{fenced, Fenced};
 
+use file_decoder::Compiled;
 use file_rows::{Code, skip_at};
 
 // Whether a row with this first byte is a load behind a store that may be pending.
 fn is_early(kind: u8, pending: bool) -> bool
     ensures { result ≡ false → kind ≡ 0x11 → pending ≡ false }
 {
-    if kind == 0x11 {
-        return pending;
-    }
-    false
+    pending && kind == 0x11
 }
 
 // Whether a store may be pending behind a row with this first byte: a fence clears what no skip carries over it.
@@ -24,19 +22,11 @@ fn pending_behind(kind: u8, pending: bool, over: usize) -> bool
     ensures carried { pending ≡ true → 0 < over → result ≡ true }
     ensures kept { pending ≡ true → (kind ≡ 0x12 → ⊥) → (kind ≡ 0x13 → ⊥) → result ≡ true }
 {
-    if kind == 0x10 {
-        return true;
+    match kind {
+        0x10 => true,
+        0x12 | 0x13 if over == 0 => false,
+        _ => pending,
     }
-    if 0 < over {
-        return pending;
-    }
-    if kind == 0x12 {
-        return false;
-    }
-    if kind == 0x13 {
-        return false;
-    }
-    pending
 }
 
 // How many rows skips with a pending store may go over behind a row that may skip so many.
@@ -44,16 +34,8 @@ fn over_behind(pending: bool, over: usize, skip: usize) -> usize
     ensures before { over ≤ result + 1 }
     ensures skipping { pending ≡ true → skip ≤ result }
 {
-    if pending {
-        if over <= skip {
-            return skip;
-        }
-        return over - 1;
-    }
-    if over == 0 {
-        return 0;
-    }
-    over - 1
+    let left = over.saturating_sub(1);
+    if pending { left.max(skip) } else { left }
 }
 
 // Whether thread t, of n instructions, fences its stores.
@@ -63,8 +45,7 @@ fn is_fenced_thread(code: &Code, t: usize, n: usize) -> bool
 {
     let mut pending = false;
     let mut over = 0;
-    let mut i = 0;
-    while i < n {
+    for i in 0..n {
         let row = t * 16 + i;
         let kind = code[row * 16];
         if is_early(kind, pending) {
@@ -73,22 +54,19 @@ fn is_fenced_thread(code: &Code, t: usize, n: usize) -> bool
         let behind = pending_behind(kind, pending, over);
         over = over_behind(pending, over, skip_at(code, row));
         pending = behind;
-        i += 1;
     }
     true
 }
 
-// Whether every thread of the program in these rows does. A program of which this is not seen may be robust all the same.
-pub fn is_fenced(code: &Code, lengths: &[usize; 6], threads: usize) -> bool
-    requires { (p : Program) × Loaded code.now lengths.now threads p }
-    ensures { (p : Program) → Loaded code.now lengths.now threads p → result ≡ true → Fenced p }
+// Whether every thread of the program fences its stores. A program of which this is not seen may be robust all the same.
+pub fn is_fenced(program: &Compiled) -> bool
+    requires { (p : Program) × Loaded program.now.code program.now.lengths program.now.threads p }
+    ensures { (p : Program) → Loaded program.now.code program.now.lengths program.now.threads p → result ≡ true → Fenced p }
 {
-    let mut t = 0;
-    while t < threads {
-        if !is_fenced_thread(code, t, lengths[t]) {
+    for t in 0..program.threads {
+        if !is_fenced_thread(&program.code, t, program.lengths[t]) {
             return false;
         }
-        t += 1;
     }
     true
 }

@@ -8,39 +8,30 @@ use listing_cursor::{beginning, behind};
 use listing_model::Model;
 use listing_pages::next_page;
 use listing_replay::admitted;
-use spec_calls::RowsAnswer;
+use spec_file::Refusal;
 
 // The first listed schedules, as many as the output has room for.
-pub fn first_rows(model: Model, file: &[u8], out: &mut [u8]) -> RowsAnswer
+pub fn first_rows(model: Model, file: &[u8], out: &mut [u8]) -> Result<usize, Refusal>
     ensures answer { result ≡ rows_file (model_of model) file.now none out.old }
     ensures output { out.new ≡ rows_output (model_of model) file.now none out.old }
 {
-    let a = admitted(model, file);
-    let v = a.verdict;
-    match v {
-        file_decoder::Verdict::Refused(n, k) => RowsAnswer::Refused(n, k),
-        file_decoder::Verdict::Accepted => {
-            let p = a.program;
-            let page = next_page(model, p, beginning(), false, out);
-            RowsAnswer::Written(page.rows)
-        }
-    }
+    let program = admitted(model, file)?;
+    let page = next_page(model, program, beginning(), false, out);
+    Ok(page.rows)
 }
 
 // The listed schedules after a given one, which need not be listed nor full.
-pub fn next_rows(model: Model, file: &[u8], schedule: &[u8], out: &mut [u8]) -> RowsAnswer
+pub fn next_rows(
+    model: Model,
+    file: &[u8],
+    schedule: &[u8],
+    out: &mut [u8],
+) -> Result<usize, Refusal>
     ensures answer { result ≡ rows_file (model_of model) file.now (some schedule.now) out.old }
     ensures output { out.new
         ≡ rows_output (model_of model) file.now (some schedule.now) out.old }
 {
-    let a = admitted(model, file);
-    let v = a.verdict;
-    match v {
-        file_decoder::Verdict::Refused(n, k) => RowsAnswer::Refused(n, k),
-        file_decoder::Verdict::Accepted => {
-            let p = a.program;
-            let page = next_page(model, p, behind(schedule), false, out);
-            RowsAnswer::Written(page.rows)
-        }
-    }
+    let program = admitted(model, file)?;
+    let page = next_page(model, program, behind(schedule), false, out);
+    Ok(page.rows)
 }

@@ -1,8 +1,8 @@
 -- Bits named by shifts, six of them as one number, and a stamp's cases.
 use Prim.Native.Nat.{ℕ, zero, suc, ◌+◌, ◌*◌, ◌/◌, ◌%◌, ◌^◌, ◌<◌, ◌≤◌}
-use mathlib.Core.Path.{◌≡◌, refl, sym, ap, ◌∙◌}
+use mathlib.Core.Path.{◌≡◌, refl, sym, ap}
 use mathlib.Core.Bool.{Bool, true, false, cond}
-use mathlib.Core.List.{List, [], ◌∷◌}
+use mathlib.Core.List.{List}
 use native.Mathlib.Omega.{arith}
 use native.Mathlib.Nat.{div-eq_of_lt, pow-le-pow_right}
 use lib.Dec.{eqb}
@@ -55,3 +55,9 @@ pub stamp_stored : (s : List ℕ) (l n : ℕ) (w : Bool) → set s l (cond w n (
 unfolding stamps_behind
 stamp_stored s l n true = refl
 stamp_stored s l n false = set-get_or s l 0
+
+-- a number or nothing, as the code chooses
+pub chosen : (b : Bool) (k r : ℕ) → r ≡ cond b k 0 → (r ≡ addend b k) × (r ≤ k)
+unfolding addend
+chosen true k r e = (e, omega (arith, e))
+chosen false k r e = (e, omega (arith, e))

@@ -97,27 +97,17 @@ groups_same class class' n h =
     tabulate_same (λ k. members_of class' (k + 1)) (λ k. members_of class (k + 1)) n
     (λ k i. select_same (λ t. eqb (get_or class' t 0) (k + 1)) (λ t. eqb (get_or class t 0) (k + 1)) 0 6 (λ t a b. h t (k + 1) (omega arith) (omega arith) (omega arith)))
 
--- six classes, each itself where it names a group and else none
-module _ (class : List ℕ) (n : ℕ) (a b c d e f : ℕ) where
-  abbrev Kept : ℕ → ℕ → Type 0
-  Kept g r = (r ≤ n) × (g ≤ n → r ≡ g) × (n < g → r ≡ 0)
+-- classes, each itself where it names a group and else none
+abbrev pub Kept : ℕ → ℕ → ℕ → Type 0
+Kept n g r = (r ≤ n) × (g ≤ n → r ≡ g) × (n < g → r ≡ 0)
 
-  module _ (ka : Kept (get_or class 0 0) a) (kb : Kept (get_or class 1 0) b) (kc : Kept (get_or class 2 0) c) (kd : Kept (get_or class 3 0) d) (ke : Kept (get_or class 4 0) e) (kf : Kept (get_or class 5 0) f) where
-    each : (t : ℕ) → t < 6 → Kept (get_or class t 0) (get_or (a ∷ b ∷ c ∷ d ∷ e ∷ f ∷ []) t 0)
-    each zero h = ka
-    each (suc zero) h = kb
-    each (suc (suc zero)) h = kc
-    each (suc (suc (suc zero))) h = kd
-    each (suc (suc (suc (suc zero)))) h = ke
-    each (suc (suc (suc (suc (suc zero))))) h = kf
-    each (suc (suc (suc (suc (suc (suc t)))))) h = absurd (omega arith)
+module _ (class known : List ℕ) (n : ℕ) (each : (t : ℕ) → t < 6 → Kept n (get_or class t 0) (get_or known t 0)) where
+  same_test : (x r g : ℕ) → Kept n x r → 0 < g → g ≤ n → eqb r g ≡ eqb x g
+  same_test x r g k h i = go (dec_lt n x)
+    where
+      go : Dec (n < x) → eqb r g ≡ eqb x g
+      go (yes l) = let q = k.2 l in ne_eqb r g (λ z. omega (arith, q, z)) ∙ sym (ne_eqb x g (λ z. omega (arith, l, z)))
+      go (no l) = ap (λ (y : ℕ). eqb y g) (k.1 (omega (arith, l)))
 
-    same_test : (x r g : ℕ) → Kept x r → 0 < g → g ≤ n → eqb r g ≡ eqb x g
-    same_test x r g k h i = go (dec_lt n x)
-      where
-        go : Dec (n < x) → eqb r g ≡ eqb x g
-        go (yes l) = let q = k.2 l in ne_eqb r g (λ z. omega (arith, q, z)) ∙ sym (ne_eqb x g (λ z. omega (arith, l, z)))
-        go (no l) = ap (λ (y : ℕ). eqb y g) (k.1 (omega (arith, l)))
-
-    pub six_known : ((t : ℕ) → t < 6 → get_or (a ∷ b ∷ c ∷ d ∷ e ∷ f ∷ []) t 0 ≤ n) × (groups_of (a ∷ b ∷ c ∷ d ∷ e ∷ f ∷ []) n ≡ groups_of class n)
-    six_known = (λ t h. (each t h).0, groups_same class (a ∷ b ∷ c ∷ d ∷ e ∷ f ∷ []) n (λ t g h i j. same_test (get_or class t 0) (get_or (a ∷ b ∷ c ∷ d ∷ e ∷ f ∷ []) t 0) g (each t h) i j))
+  pub all_known : ((t : ℕ) → t < 6 → get_or known t 0 ≤ n) × (groups_of known n ≡ groups_of class n)
+  all_known = (λ t h. (each t h).0, groups_same class known n (λ t g h i j. same_test (get_or class t 0) (get_or known t 0) g (each t h) i j))

@@ -11,10 +11,9 @@ use borrow.Author.Tests.{eq-eqb, ne_eqb, le-ltb}
 use Rattle.file_rows.specs.Rows.{instruction_at}
 use Rattle.machine_access.specs.CarriedOut.{access_of}
 use Rattle.machine_access.specs.declared.thread.ThreadState.{ThreadState}
-use Rattle.spec_sc.specs.State.{State, place, enabled}
-use Rattle.spec_sc.specs.Actions.{Action, action, writes, conflict}
+use Rattle.spec_sc.specs.State.{State, enabled}
+use Rattle.spec_sc.specs.Actions.{Action, action, conflict}
 use Rattle.spec_sc.proofs.FreeSteps.{action_location, action_wrote}
-use Rattle.graph_writer.proofs.NotesHeld.{flag}
 use Rattle.machine.specs.Held.{thread_at, Holds}
 use Rattle.machine.specs.declared.state.Machine.{Machine}
 use Rattle.machine.proofs.HeldAsking.{held_enabled, held_ended}
@@ -69,7 +68,7 @@ module _ (code lengths : List ℕ) (m : Machine) (σ : State) (held : Holds code
       let w = access_of x (thread_at m u).registers m.memory in
       let c : conflict (record { thread = 0; location = a.location; wrote = a.wrote }) (accessing_at code (u * 16 + (thread_at m u).at) (thread_at m u).registers m.memory) ≡ conflict a (action σ u) =
       conflict_same _ _ a (action σ u) refl refl (sym (next_place code lengths m σ u held ok x w refl refl) ∙ sym (action_location σ u))
-      (ap (λ (v : ℕ). eqb v 1) (sym (next_wrote code lengths m σ u held ok x w refl refl)) ∙ flag (writes σ u) ∙ sym (action_wrote σ u)) in
+      (sym (next_wrote code lengths m σ u held ok x w refl refl) ∙ sym (action_wrote σ u)) in
       let d : accessing_at code row k.registers memory ≡ accessing_at code (u * 16 + (thread_at m u).at) (thread_at m u).registers m.memory =
       ap (λ (j : ℕ). accessing_at code j k.registers memory) (er ∙ ap (λ (y : ThreadState). u * 16 + y.at) (sym ek))
       ∙ ap₂ (λ (y : ThreadState) (z : List ℕ). accessing_at code (u * 16 + (thread_at m u).at) y.registers z) (sym ek) (sym em) in

@@ -14,13 +14,12 @@ use lib.Seq.{take-suc-set, get_or-set_same}
 use Rattle.spec_file.specs.Program.{Program}
 use Rattle.machine_access.specs.declared.thread.ThreadState.{ThreadState}
 use Rattle.spec_schedules.specs.Order.{Schedule}
-use Rattle.spec_schedules.specs.System.{run, ended, Allowed}
+use Rattle.spec_schedules.specs.System.{ended, Allowed}
 use Rattle.spec_schedules.proofs.Runs.{run_nil, run_snoc, allowed_join, allowed_length, ended_of, not_ended}
 use Rattle.spec_sc.specs.State.{State, place, step, enabled, SC, start}
 use Rattle.spec_sc.specs.Graph.{end_of}
 use Rattle.spec_sc.specs.Actions.{Action, action, writes}
 use Rattle.machine.specs.Held.{idle, thread_at, Holds, Loaded, ReadyThread, HoldsMoved}
-use Rattle.machine.specs.declared.state.LastWrite.{LastWrite}
 use Rattle.machine.specs.declared.state.Machine.{Machine}
 use Rattle.machine.specs.declared.stepping.Moved.{Moved}
 use Rattle.spec_sc.proofs.Steps.{enabled_small, enabled_range, run_threads}
@@ -34,7 +33,7 @@ use Rattle.machine.proofs.HeldNext.{held_left}
 use Rattle.spec_schedules.specs.Sets.{has}
 use Rattle.theory_sc.specs.Sets.{set_of}
 use Rattle.theory_sc.specs.LateSet.{late_behind, late_set}
-use Rattle.theory_sc.specs.ReadWords.{Words, word_behind, stamps_behind, words_behind, no_words, words_of}
+use Rattle.theory_sc.specs.ReadWords.{Words, word_behind, words_behind, no_words, words_of}
 use Rattle.theory_sc.proofs.Sets.{has_none, set_has, set_none, set_at_least}
 use Rattle.theory_sc.proofs.LateSet.{late_start, late_more}
 use Rattle.theory_sc.proofs.TwinWords.{words_start, words_more}

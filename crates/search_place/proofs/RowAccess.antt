@@ -1,11 +1,11 @@
 -- What the access in a row does, as far as others have to wait for it, by the row's first byte.
-use Prim.Native.Nat.{ℕ, ◌+◌, ◌*◌, ◌<◌}
+use Prim.Native.Nat.{ℕ, ◌+◌, ◌*◌, ◌<◌, ◌≤◌}
+use native.Mathlib.Omega.{arith}
 use mathlib.Core.Path.{◌≡◌, refl, sym, ◌∙◌, ap}
 use mathlib.Core.Logic.{◌≢◌}
 use mathlib.Core.Bool.{Bool, true, false}
 use mathlib.Core.List.{List, [], ◌∷◌}
 use native.Mathlib.Decide.{ℕ_discrete}
-use lib.Dec.{eqb}
 use lib.ListN.{get_or}
 use Rattle.spec_file.specs.declared.instruction.Operand.{Operand}
 use Rattle.spec_file.specs.declared.instruction.Instruction.{Instruction}
@@ -25,17 +25,26 @@ module _ (code : List ℕ) (k : ℕ) (h : k < 96) where
   unfolding first_place access_place
   place_store e = rw (row_store code k h e)
 
-  pub place_load : get_or code (k * 16) 0 ≡ 0x11 → get_or code (k * 16 + 2) 0 ≡ first_place (instruction_at code k ∷ [])
+  place_load : get_or code (k * 16) 0 ≡ 0x11 → get_or code (k * 16 + 2) 0 ≡ first_place (instruction_at code k ∷ [])
   unfolding first_place access_place
   place_load e = rw (row_load code k h e)
 
-  pub place_fetch_add : get_or code (k * 16) 0 ≡ 0x12 → get_or code (k * 16 + 2) 0 ≡ first_place (instruction_at code k ∷ [])
+  place_fetch_add : get_or code (k * 16) 0 ≡ 0x12 → get_or code (k * 16 + 2) 0 ≡ first_place (instruction_at code k ∷ [])
   unfolding first_place access_place
   place_fetch_add e = rw (row_fetch_add code k h e)
 
-  pub place_compare_swap : get_or code (k * 16) 0 ≡ 0x13 → get_or code (k * 16 + 2) 0 ≡ first_place (instruction_at code k ∷ [])
+  place_compare_swap : get_or code (k * 16) 0 ≡ 0x13 → get_or code (k * 16 + 2) 0 ≡ first_place (instruction_at code k ∷ [])
   unfolding first_place access_place
   place_compare_swap e = rw (row_compare_swap code k h e)
+
+  -- the three that read
+  pub place_read : 0x11 ≤ get_or code (k * 16) 0 → get_or code (k * 16) 0 ≤ 0x13 → get_or code (k * 16 + 2) 0 ≡ first_place (instruction_at code k ∷ [])
+  place_read low high = go (ℕ_discrete (get_or code (k * 16) 0) 0x11) (ℕ_discrete (get_or code (k * 16) 0) 0x12)
+    where
+      go : Dec (get_or code (k * 16) 0 ≡ 0x11) → Dec (get_or code (k * 16) 0 ≡ 0x12) → get_or code (k * 16 + 2) 0 ≡ first_place (instruction_at code k ∷ [])
+      go (yes e) d = place_load e
+      go (no n) (yes e) = place_fetch_add e
+      go (no n) (no m) = place_compare_swap (omega (arith, n, m, low, high))
 
   pub writer_store : get_or code (k * 16) 0 ≡ 0x10 → true ≡ first_may_write (instruction_at code k ∷ [])
   unfolding first_may_write access_may_write
@@ -96,6 +105,6 @@ module _ (code : List ℕ) (row : ℕ) (rs m : List ℕ) (l : ℕ) (w : Bool) (k
   pub written_at : k ≡ l → w ≡ true → true ≡ conflict (record { thread = 0; location = l; wrote = w }) (accessing_at code row rs m)
   written_at e q = sym (conflict_written here there (sym e ∙ sym there_at) q)
 
-  pub read_at : k ≡ l → w ≡ false → (b : Bool) → b ≡ eqb (access_of (instruction_at code row) rs m).writes 1
+  pub read_at : k ≡ l → w ≡ false → (b : Bool) → b ≡ (access_of (instruction_at code row) rs m).writes
       → b ≡ conflict (record { thread = 0; location = l; wrote = w }) (accessing_at code row rs m)
   read_at e q b eb = eb ∙ sym (conflict_read here there (sym e ∙ sym there_at) q)

@@ -1,5 +1,5 @@
 -- Steps and accesses as the code knows them.
-use Rattle.std.specs.Prelude.{ℕ, List, eqb}
+use Rattle.std.specs.Prelude.{ℕ, List}
 use Rattle.file_rows.specs.Rows.{instruction_at}
 use Rattle.machine_access.specs.CarriedOut.{access_of}
 use Rattle.spec_sc.specs.Actions.{Action}
@@ -13,4 +13,4 @@ action_of a = record { thread = a.thread; location = a.location; wrote = a.wrote
 abbrev pub accessing_at : List ℕ → ℕ → List ℕ → List ℕ → Action
 accessing_at code row registers memory =
     let a = access_of (instruction_at code row) registers memory in
-    record { thread = 0; location = a.location; wrote = eqb a.writes 1 }
+    record { thread = 0; location = a.location; wrote = a.writes }

@@ -11,38 +11,39 @@ ghost use Rattle.search_place.specs.Reached.{Reached};
 
 use crate::lateness::{Step, is_late_behind};
 use crate::place::Place;
-use crate::reading::{stamp_behind, word_behind};
+use crate::reading::word_behind;
 use crate::running::live_set;
-use crate::sets::{addend, power};
-use file_lines::wide;
-use file_rows::Code;
+use crate::sets::power;
+use file_decoder::Compiled;
+use file_lines::{choose, wide};
 use machine::{Machine, Moved, started};
 use machine_access::ThreadState;
 use spec_file::STEPS;
 
-// The place before the first step of the program in these rows, with these starting values.
-pub fn begun(code: &Code, lengths: &[usize; 6], threads: usize, starting: [u32; 8]) -> Place
-    requires { (p : Program) × Loaded code.now lengths.now threads p }
-    ensures { (class : List ℕ) (groups : ℕ) (p : Program) → Loaded code.now lengths.now threads p
-        → starting ≡ initial p → Lined class groups p → Reached code.now lengths.now class threads groups result p [] }
+// The place before the first step of the program.
+pub fn begun(program: &Compiled) -> Place
+    requires { (p : Program) × Loaded program.now.code program.now.lengths program.now.threads p }
+    ensures { (class : List ℕ) (groups : ℕ) (p : Program) → Loaded program.now.code program.now.lengths program.now.threads p
+        → program.now.starting ≡ initial p → Lined class groups p
+        → Reached program.now.code program.now.lengths class program.now.threads groups result p [] }
 {
-    let m = started(code, lengths, threads, starting);
+    let m = started(program);
     let threads = m.threads;
     let memory = m.memory;
     Place {
-        threads: threads,
-        memory: memory,
+        threads,
+        memory,
         words: [0u64; 6],
         schedule: [0u8; STEPS],
         stamps: [0u8; 8],
         steps: 0,
         late: 0,
-        live: live_set(lengths, threads),
+        live: live_set(&program.lengths, threads),
     }
 }
 
 // Stores the stamp of a location behind a step to it, which comes behind n others and wrote it or not; gives back the one that it had.
-pub fn mark_location(stamps: &mut [u8; 8], location: u8, wrote: bool, n: usize) -> u8
+pub(crate) fn mark_location(stamps: &mut [u8; 8], location: u8, wrote: bool, n: usize) -> u8
     requires { n < 24 }
     ensures old { result ≡ get_or stamps.old (location % 8) 0 }
     ensures new { stamps.new ≡ set stamps.old (location % 8)
@@ -50,12 +51,12 @@ pub fn mark_location(stamps: &mut [u8; 8], location: u8, wrote: bool, n: usize) 
 {
     let l = wide(location) % 8;
     let stamp = stamps[l];
-    stamps[l] = stamp_behind(stamp, (n + 1) as u8, wrote);
+    stamps[l] = choose(wrote, (n + 1) as u8, stamp);
     stamp
 }
 
 // Stores the word of thread t behind a step of its, which found this stamp, and wrote or not.
-pub fn mark_thread(words: &mut [u64; 6], t: u8, stamp: u8, wrote: bool)
+pub(crate) fn mark_thread(words: &mut [u64; 6], t: u8, stamp: u8, wrote: bool)
     requires { t < 6 }
     ensures { words.new ≡ set words.old t (word_behind t (get_or words.old t 0) stamp wrote) }
 {
@@ -65,17 +66,9 @@ pub fn mark_thread(words: &mut [u64; 6], t: u8, stamp: u8, wrote: bool)
 }
 
 // What thread u, which stands so behind the step a of thread t, adds to the set of the late: its bit or nothing.
-pub fn late_bit(
-    code: &Code,
-    lengths: &[usize; 6],
-    k: ThreadState,
-    a: Moved,
-    u: u8,
-    late: u8,
-    t: u8,
-) -> u8
-    requires { (u < 6) × (k.at < get_or lengths.now u 0 → get_or lengths.now u 0 ≤ 16) }
-    ensures { (result ≤ 2 ^ u) × ((m : Machine) (σ : State) → Holds code.now lengths.now m σ
+pub(crate) fn late_bit(program: &Compiled, k: ThreadState, a: Moved, u: u8, late: u8, t: u8) -> u8
+    requires { (u < 6) × (k.at < get_or program.now.lengths u 0 → get_or program.now.lengths u 0 ≤ 16) }
+    ensures { (result ≤ 2 ^ u) × ((m : Machine) (σ : State) → Holds program.now.code program.now.lengths m σ
         → thread_at m u ≡ k → m.memory ≡ a.memory
         → result ≡ addend (late_now σ late (record { thread = t; location = a.location; wrote = a.wrote }) u) (2 ^ u)) }
 {
@@ -85,8 +78,5 @@ pub fn late_bit(
         location: a.location,
         wrote: a.wrote,
     };
-    addend(
-        is_late_behind(code, lengths, k, memory, u, late, s),
-        power(u),
-    )
+    choose(is_late_behind(program, k, memory, u, late, s), power(u), 0)
 }

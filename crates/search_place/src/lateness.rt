@@ -9,65 +9,55 @@ ghost use Rattle.search_place.specs.Steps.{action_of};
 
 use crate::sets::is_in;
 use crate::waiting::conflicts_at;
+use file_decoder::Compiled;
 use file_lines::wide;
-use file_rows::Code;
 use machine::Machine;
 use machine_access::ThreadState;
 
 // A step: its thread, its location and whether it wrote.
 #[derive(Clone, Copy)]
-pub struct Step {
+pub(crate) struct Step {
     pub thread: u8,
     pub location: u8,
     pub wrote: bool,
 }
 
-// Whether thread u is smaller than t or was late.
-fn is_before(late: u8, t: u8, u: u8) -> bool
-    ensures { result ≡ (ltb u t || has late u) }
-{
-    if u < t {
-        return true;
-    }
-    is_in(late, u)
-}
-
 // A number that every thread late behind a step of t is below: where none was late, only those smaller than t can be.
-pub fn late_bound(late: u8, t: u8) -> u8
+pub(crate) fn late_bound(late: u8, t: u8) -> u8
     requires { t < 6 }
     ensures { (result ≤ 6) × ((σ : State) (a : Action) (u : ℕ) → a.thread ≡ t → result ≤ u → u < 6 → late_now σ late a u ≡ false) }
 {
-    if late == 0 {
-        return t;
-    }
-    6
+    if late == 0 { t } else { 6 }
 }
 
 // Whether thread u, which stands so with this memory behind the step a, is late.
 pub(crate) fn is_late_behind(
-    code: &Code,
-    lengths: &[usize; 6],
+    program: &Compiled,
     k: ThreadState,
     memory: [u32; 8],
     u: u8,
     late: u8,
     a: Step,
 ) -> bool
-    requires { (u < 6) × (k.at < get_or lengths.now u 0 → get_or lengths.now u 0 ≤ 16) }
-    ensures { (m : Machine) (σ : State) → Holds code.now lengths.now m σ
+    requires { (u < 6) × (k.at < get_or program.now.lengths u 0 → get_or program.now.lengths u 0 ≤ 16) }
+    ensures { (m : Machine) (σ : State) → Holds program.now.code program.now.lengths m σ
         → thread_at m u ≡ k → m.memory ≡ memory → result ≡ late_now σ late (action_of a) u }
 {
-    if a.thread == u {
-        return false;
-    }
     let t = wide(u);
     let at = k.at;
-    if lengths[t] <= at {
+    if a.thread == u || program.lengths[t] <= at {
         return false;
     }
-    if !is_before(late, a.thread, u) {
+    if a.thread <= u && !is_in(late, u) {
         return false;
     }
     let registers = k.registers;
-    !conflicts_at(code, t * 16 + at, registers, memory, a.location, a.wrote)
+    !conflicts_at(
+        &program.code,
+        t * 16 + at,
+        registers,
+        memory,
+        a.location,
+        a.wrote,
+    )
 }

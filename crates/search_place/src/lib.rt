@@ -17,11 +17,12 @@ mod running;
 mod classes;
 // The start, and what a step leaves to the rules.
 mod going;
+// A step.
+mod stepping;
 
 pub use classes::known_lines;
-pub use going::{begun, late_bit, mark_location, mark_thread};
-pub use lateness::{Step, late_bound};
+pub use going::begun;
 pub use place::Place;
-pub use running::live_behind;
 pub use sets::{addend, is_in, power};
+pub use stepping::step;
 pub use waiting::{is_writer, location_at};

@@ -1,5 +1,5 @@
-// R2: the word of a thread's reads, and the stamp of a location, behind a step.
-ghost use Rattle.std.specs.Prelude.{◌≡◌, cond};
+// R2: the word of a thread's reads behind a step.
+ghost use Rattle.std.specs.Prelude.{◌≡◌};
 ghost use Rattle.theory_sc.specs.ThreadWords.{lone};
 ghost use Rattle.theory_sc.specs.ReadWords.{word_behind};
 
@@ -20,21 +20,8 @@ fn lone(t: u8) -> u64
 pub(crate) fn word_behind(t: u8, word: u64, stamp: u8, wrote: bool) -> u64
     ensures { result ≡ word_behind t word stamp wrote }
 {
-    if wrote {
+    if wrote || FULL_WORD <= word {
         return lone(t);
     }
-    if word < FULL_WORD {
-        return word * 32 + ((stamp as u64) + 1);
-    }
-    lone(t)
-}
-
-// A location's stamp behind step number n, which wrote it or not.
-pub(crate) fn stamp_behind(stamp: u8, n: u8, wrote: bool) -> u8
-    ensures { result ≡ cond wrote n stamp }
-{
-    if wrote {
-        return n;
-    }
-    stamp
+    word * 32 + ((stamp as u64) + 1)
 }

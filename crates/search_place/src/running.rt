@@ -5,8 +5,8 @@ ghost use Rattle.machine.specs.Held.{Holds};
 ghost use Rattle.machine.specs.declared.state.Machine.{Machine};
 ghost use Rattle.theory_sc.specs.Sets.{set_of};
 
-use crate::sets::{addend, power};
-use file_lines::wide;
+use crate::sets::power;
+use file_lines::{choose, wide};
 use machine_access::ThreadState;
 
 // The threads that have not ended, by where each stands.
@@ -15,23 +15,18 @@ pub(crate) fn live_set(lengths: &[usize; 6], threads: [ThreadState; 6]) -> u8
         → result ≡ set_of (enabled σ) 6 }
 {
     let mut live = 0u8;
-    let mut t = 0u8;
-    while t < 6 {
+    for t in 0u8..6 {
         let i = wide(t);
         let k = threads[i];
-        live += addend(k.at < lengths[i], power(t));
-        t += 1;
+        live += choose(k.at < lengths[i], power(t), 0);
     }
     live
 }
 
 // The threads that have not ended behind a step of thread t, which is one of them and goes on behind its step or not.
-pub fn live_behind(live: u8, t: u8, on: bool) -> u8
+pub(crate) fn live_behind(live: u8, t: u8, on: bool) -> u8
     requires { (t < 6) × (2 ^ t ≤ live) }
     ensures { result ≡ cond on live (live - 2 ^ t) }
 {
-    if on {
-        return live;
-    }
-    live - power(t)
+    if on { live } else { live - power(t) }
 }

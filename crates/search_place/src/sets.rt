@@ -3,6 +3,8 @@ ghost use Rattle.std.specs.Prelude.{◌≡◌, ◌^◌, ◌<◌, ◌≤◌};
 ghost use Rattle.spec_schedules.specs.Sets.{has};
 ghost use Rattle.theory_sc.specs.Sets.{addend};
 
+use file_lines::choose;
+
 // The bit of thread t.
 pub fn power(t: u8) -> u8
     requires { t < 6 }
@@ -15,18 +17,12 @@ pub fn power(t: u8) -> u8
 pub fn is_in(set: u8, k: u8) -> bool
     ensures { result ≡ has set k }
 {
-    if k < 8 {
-        return (set >> k) % 2 == 1;
-    }
-    false
+    k < 8 && (set >> k) % 2 == 1
 }
 
 // k, or nothing.
 pub fn addend(b: bool, k: u8) -> u8
     ensures { (result ≡ addend b k) × (result ≤ k) }
 {
-    if b {
-        return k;
-    }
-    0
+    choose(b, k, 0)
 }

@@ -16,20 +16,11 @@ pub fn location_at(code: &Code, row: usize) -> u8
     ensures { result ≡ first_place (instruction_at code.now row ∷ []) }
 {
     let at = row * 16;
-    let b = code[at];
-    if b == 0x10 {
-        return code[at + 1];
+    match code[at] {
+        0x10 => code[at + 1],
+        0x11 | 0x12 | 0x13 => code[at + 2],
+        _ => 0,
     }
-    if b == 0x11 {
-        return code[at + 2];
-    }
-    if b == 0x12 {
-        return code[at + 2];
-    }
-    if b == 0x13 {
-        return code[at + 2];
-    }
-    0
 }
 
 // Whether an operand could be other than zero; a register could, whatever it holds now.
@@ -47,17 +38,11 @@ pub fn is_writer(code: &Code, row: usize) -> bool
     requires { row < 96 }
     ensures { result ≡ first_may_write (instruction_at code.now row ∷ []) }
 {
-    let b = code[row * 16];
-    if b == 0x10 {
-        return true;
+    match code[row * 16] {
+        0x10 | 0x13 => true,
+        0x12 => could_add(operand_at(code, row, 3)),
+        _ => false,
     }
-    if b == 0x12 {
-        return could_add(operand_at(code, row, 3));
-    }
-    if b == 0x13 {
-        return true;
-    }
-    false
 }
 
 // Whether the access in a row, with these registers and this memory, conflicts with one at l that wrote or not.
@@ -73,11 +58,5 @@ pub(crate) fn conflicts_at(
     ensures { result ≡ conflict (record { thread = 0; location = l; wrote = wrote })
         (accessing_at code.now row registers memory) }
 {
-    if location_at(code, row) != l {
-        return false;
-    }
-    if wrote {
-        return true;
-    }
-    writes_at(code, row, registers, memory)
+    location_at(code, row) == l && (wrote || writes_at(code, row, registers, memory))
 }

@@ -1,6 +1,6 @@
 -- R2 as the search holds it: two threads have one class and equal words exactly when they are of one `02` line and have equal words, and
 -- where a prefix is reached, exactly when they are twins.
-use Prim.Native.Nat.{ℕ, ◌+◌, ◌<◌, ◌≤◌}
+use Prim.Native.Nat.{ℕ, ◌<◌, ◌≤◌}
 use mathlib.Core.Path.{◌≡◌, refl, sym, ap, ◌∙◌}
 use mathlib.Core.Bool.{Bool, true, false, ◌&&◌, true≢false}
 use mathlib.Core.List.{List}

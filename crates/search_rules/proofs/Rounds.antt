@@ -1,13 +1,13 @@
 -- R3 behind a prefix: the counters of its threads, and the rounds of the search for sleepers.
-use Prim.Native.Nat.{ℕ, zero, suc, ◌<◌, ◌≤◌}
-use mathlib.Core.Path.{◌≡◌, refl, sym, ap, subst, ◌∙◌}
+use Prim.Native.Nat.{ℕ, ◌<◌}
+use mathlib.Core.Path.{◌≡◌, sym, ap, ◌∙◌}
 use mathlib.Core.Logic.{◌≢◌}
-use mathlib.Core.Bool.{Bool, true, false, not}
-use mathlib.Core.List.{List, [], ◌∷◌}
+use mathlib.Core.Bool.{true, false, not}
+use mathlib.Core.List.{List}
 use native.Mathlib.Omega.{arith}
 use lib.Dec.{eqb}
 use lib.ListN.{get_or, drop}
-use borrow.Author.Tests.{eq-eqb, ne_eqb}
+use borrow.Author.Tests.{ne_eqb}
 use Rattle.spec_file.specs.Program.{Program}
 use Rattle.file_rows.specs.Rows.{thread_code}
 use Rattle.spec_schedules.specs.Order.{Schedule}
@@ -25,17 +25,8 @@ use Rattle.search_place.specs.declared.place.Place.{Place}
 use Rattle.search_place.proofs.ReachedStep.{reached_short}
 
 -- the six counters
-abbrev pub counters_of : List ThreadState → List ℕ
-counters_of ts = (get_or ts 0 idle).at ∷ (get_or ts 1 idle).at ∷ (get_or ts 2 idle).at ∷ (get_or ts 3 idle).at ∷ (get_or ts 4 idle).at ∷ (get_or ts 5 idle).at ∷ []
-
-six_counters : (ts : List ThreadState) (k : ℕ) → k < 6 → get_or (counters_of ts) k 0 ≡ (get_or ts k idle).at
-six_counters ts zero h = refl
-six_counters ts (suc zero) h = refl
-six_counters ts (suc (suc zero)) h = refl
-six_counters ts (suc (suc (suc zero))) h = refl
-six_counters ts (suc (suc (suc (suc zero)))) h = refl
-six_counters ts (suc (suc (suc (suc (suc zero))))) h = refl
-six_counters ts (suc (suc (suc (suc (suc (suc k)))))) h = absurd (omega arith)
+abbrev pub Counters : List ThreadState → List ℕ → Type 0
+Counters ts at = (k : ℕ) → k < 6 → get_or at k 0 ≡ (get_or ts k idle).at
 
 -- where the threads stand as at a place, and as many are late
 module _ (code lengths class : List ℕ) (threads groups : ℕ) (x : Place) (p : Program) (v : Schedule) (r : Reached code lengths class threads groups x p v)
@@ -43,13 +34,15 @@ module _ (code lengths class : List ℕ) (threads groups : ℕ) (x : Place) (p :
   abbrev σ : State
   σ = end_of p v
 
-  pub counters_short : ShortAt lengths (counters_of ts)
-  counters_short = subst (λ (l : List ThreadState). ShortAt lengths (counters_of l)) et
-      (λ k h l. let e = six_counters x.threads k h in reached_short code lengths class threads groups x p v r k h (omega (arith, e, l)))
+  module _ (at : List ℕ) (counted : Counters ts at) where
+    counter : (k : ℕ) → k < 6 → get_or at k 0 ≡ (get_or x.threads k idle).at
+    counter k h = counted k h ∙ ap (λ (l : List ThreadState). (get_or l k idle).at) (sym et)
 
-  pub counters_rest : Rests code lengths (counters_of ts) (end_of p v)
-  counters_rest = subst (λ (l : List ThreadState). Rests code lengths (counters_of l) (end_of p v)) et
-      (λ t h. (r.holds.threads t h).rest ∙ ap (λ (i : ℕ). drop i (thread_code code t (get_or lengths t 0))) (sym (six_counters x.threads t h)))
+    pub counters_short : ShortAt lengths at
+    counters_short k h l = reached_short code lengths class threads groups x p v r k h (omega (arith, counter k h, l))
+
+    pub counters_rest : Rests code lengths at (end_of p v)
+    counters_rest t h = (r.holds.threads t h).rest ∙ ap (λ (i : ℕ). drop i (thread_code code t (get_or lengths t 0))) (sym (counter t h))
 
   pub late_small : s < 64
   late_small = omega (arith, r.late, late_below p v, es)

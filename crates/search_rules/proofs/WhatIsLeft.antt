@@ -21,10 +21,11 @@ use Rattle.spec_schedules.proofs.Loops.{range_none, range_more}
 use Rattle.spec_sc.specs.Local.{access_takes, first_place, first_takes, place_of}
 use Rattle.spec_sc.specs.State.{State, thread_of, place}
 use Rattle.theory_search.specs.Ahead.{first_may_write, may_write}
+use Rattle.theory_search.proofs.Back.{and_false}
 use Rattle.spec_schedules.specs.Sets.{has}
 use Rattle.theory_sc.specs.Sets.{addend, set_of, joined}
 use Rattle.theory_sc.specs.Sleepers.{reads_left, writes_left, meets, wakes, sleeps_in}
-use Rattle.theory_sc.proofs.Sets.{has_none, set_same, joined_there, joined_new, joined_below}
+use Rattle.theory_sc.proofs.Sets.{has_none, set_same, joined_new, joined_below}
 use Rattle.search_rules.specs.Left.{Left, Rests}
 use Rattle.search_place.proofs.RowAccess.{place_first, writer_first}
 
@@ -40,17 +41,22 @@ joined_out l s h k =
     sym (eqb-true (set_of (has s) 8) s (all_at (λ s. eqb (set_of (has s) 8) s) (range 0 256) s own_eight (in_range_lem 0 256 s (omega arith) (omega arith))))
     ∙ set_same (has s) (λ k. eqb l k || has s k) 8 (λ t i. let q = ne_eqb l t (λ e. omega (arith, e)) in rw q)
 
-powers : all (λ l. eqb (get_or (1 ∷ 2 ∷ 4 ∷ 8 ∷ 16 ∷ 32 ∷ 64 ∷ 128 ∷ []) l 0) (2 ^ l)) (range 0 8) ≡ true
-unfolding all range
-powers = refl
+-- a location's bit, shifted
+power_at : (l : ℕ) → l < 8 → 1 * 2 ^ l % 256 ≡ 2 ^ l
+power_at zero h = refl
+power_at (suc zero) h = refl
+power_at (suc (suc zero)) h = refl
+power_at (suc (suc (suc zero))) h = refl
+power_at (suc (suc (suc (suc zero)))) h = refl
+power_at (suc (suc (suc (suc (suc zero))))) h = refl
+power_at (suc (suc (suc (suc (suc (suc zero)))))) h = refl
+power_at (suc (suc (suc (suc (suc (suc (suc zero))))))) h = refl
+power_at (suc (suc (suc (suc (suc (suc (suc (suc l)))))))) h = absurd (omega arith)
 
-pub power_at : (l : ℕ) → l < 8 → get_or (1 ∷ 2 ∷ 4 ∷ 8 ∷ 16 ∷ 32 ∷ 64 ∷ 128 ∷ []) l 0 ≡ 2 ^ l
-power_at l h = eqb-true (get_or (1 ∷ 2 ∷ 4 ∷ 8 ∷ 16 ∷ 32 ∷ 64 ∷ 128 ∷ []) l 0) (2 ^ l) (all_at (λ l. eqb (get_or (1 ∷ 2 ∷ 4 ∷ 8 ∷ 16 ∷ 32 ∷ 64 ∷ 128 ∷ []) l 0) (2 ^ l)) (range 0 8) l powers (in_range_lem 0 8 l (omega arith) (omega arith)))
-
-pub joined_power : (l s : ℕ) → l < 8 → s < 256 → has s l ≡ false → s + get_or (1 ∷ 2 ∷ 4 ∷ 8 ∷ 16 ∷ 32 ∷ 64 ∷ 128 ∷ []) l 0 ≡ joined l s
+pub joined_power : (l s : ℕ) → l < 8 → s < 256 → has s l ≡ false → s + 1 * 2 ^ l % 256 ≡ joined l s
 joined_power l s h k e = ap (λ (n : ℕ). s + n) (power_at l h) ∙ sym (joined_new l s h k e)
 
-pub joined_fits : (l s : ℕ) → l < 8 → s < 256 → has s l ≡ false → s + get_or (1 ∷ 2 ∷ 4 ∷ 8 ∷ 16 ∷ 32 ∷ 64 ∷ 128 ∷ []) l 0 < 256
+pub joined_fits : (l s : ℕ) → l < 8 → s < 256 → has s l ≡ false → s + 1 * 2 ^ l % 256 < 256
 joined_fits l s h k e = omega (arith, joined_power l s h k e, joined_below l s)
 
 -- ---- one instruction more in front
@@ -79,17 +85,25 @@ module _ (x : Instruction) (is : List Instruction) (set : ℕ) where
 
 -- whether the access in a row reads, by the row's first byte
 module _ (code : List ℕ) (k : ℕ) (h : k < 96) where
-  pub reader_load : get_or code (k * 16) 0 ≡ 0x11 → true ≡ first_takes (instruction_at code k ∷ [])
+  reader_load : get_or code (k * 16) 0 ≡ 0x11 → true ≡ first_takes (instruction_at code k ∷ [])
   unfolding first_takes access_takes
   reader_load e = rw (row_load code k h e)
 
-  pub reader_fetch_add : get_or code (k * 16) 0 ≡ 0x12 → true ≡ first_takes (instruction_at code k ∷ [])
+  reader_fetch_add : get_or code (k * 16) 0 ≡ 0x12 → true ≡ first_takes (instruction_at code k ∷ [])
   unfolding first_takes access_takes
   reader_fetch_add e = rw (row_fetch_add code k h e)
 
-  pub reader_compare_swap : get_or code (k * 16) 0 ≡ 0x13 → true ≡ first_takes (instruction_at code k ∷ [])
+  reader_compare_swap : get_or code (k * 16) 0 ≡ 0x13 → true ≡ first_takes (instruction_at code k ∷ [])
   unfolding first_takes access_takes
   reader_compare_swap e = rw (row_compare_swap code k h e)
+
+  pub reader_some : 0x11 ≤ get_or code (k * 16) 0 → get_or code (k * 16) 0 ≤ 0x13 → true ≡ first_takes (instruction_at code k ∷ [])
+  reader_some low high = go (ℕ_discrete (get_or code (k * 16) 0) 0x11) (ℕ_discrete (get_or code (k * 16) 0) 0x12)
+    where
+      go : Dec (get_or code (k * 16) 0 ≡ 0x11) → Dec (get_or code (k * 16) 0 ≡ 0x12) → true ≡ first_takes (instruction_at code k ∷ [])
+      go (yes e) d = reader_load e
+      go (no n) (yes e) = reader_fetch_add e
+      go (no n) (no m) = reader_compare_swap (omega (arith, n, m, low, high))
 
   pub reader_none : (get_or code (k * 16) 0 ≡ 0x11 → ⊥) → (get_or code (k * 16) 0 ≡ 0x12 → ⊥) → (get_or code (k * 16) 0 ≡ 0x13 → ⊥) → false ≡ first_takes (instruction_at code k ∷ [])
   unfolding first_takes access_takes
@@ -109,13 +123,17 @@ pub meets_write : (R W l : ℕ) (w : Bool) → has W l ≡ true → true ≡ mee
 unfolding meets
 meets_write R W l w e = rw e
 
-pub meets_not : (R W l : ℕ) (w : Bool) → has W l ≡ false → has R l ≡ false → false ≡ meets R W l w
-unfolding meets
-meets_not R W l w e f = rw (e, f)
+and_true : (b : Bool) → (b && true) ≡ b
+and_true true = refl
+and_true false = refl
 
-pub meets_read : (R W l : ℕ) (w : Bool) → has W l ≡ false → has R l ≡ true → w ≡ meets R W l w
+pub meets_read : (R W l : ℕ) (w : Bool) → has W l ≡ false → w ≡ true → has R l ≡ meets R W l w
 unfolding meets
-meets_read R W l w e f = rw (e, f)
+meets_read R W l w e f = rw (e, f) (sym (and_true (has R l)))
+
+pub meets_not : (R W l : ℕ) (w : Bool) → has W l ≡ false → w ≡ false → false ≡ meets R W l w
+unfolding meets
+meets_not R W l w e f = rw (e, f) (sym (and_false (has R l)))
 
 -- ---- the access that a thread stands at
 module _ (code lengths at : List ℕ) (σ : State) (rests : Rests code lengths at σ) (t : ℕ) (h : t < 6) where

@@ -1,5 +1,5 @@
 -- R3 as the code asks it: the sets of what is left, in an array, and where the threads stand, in an array of their six counters.
-use Rattle.std.specs.Prelude.{ℕ, ◌+◌, ◌*◌, ◌<◌, ◌≤◌, ◌≡◌, Bool, List, length, get_or, drop}
+use Rattle.std.specs.Prelude.{ℕ, ◌+◌, ◌*◌, ◌<◌, ◌≤◌, ◌≡◌, Bool, List, get_or, drop}
 use Rattle.file_rows.specs.Rows.{thread_code}
 use Rattle.spec_sc.specs.State.{State, thread_of}
 use Rattle.theory_sc.specs.Sleepers.{reads_left, writes_left, meets}

@@ -7,22 +7,18 @@ ghost use Rattle.theory_sc.specs.Sets.{joined};
 ghost use Rattle.theory_sc.specs.Sleepers.{reads_left, writes_left};
 ghost use Rattle.search_rules.specs.Left.{Left};
 
+use file_decoder::Compiled;
 use file_rows::Code;
 use search_place::{is_in, is_writer, location_at};
-
-const POWERS: [u8; 8] = [1, 2, 4, 8, 16, 32, 64, 128];
 
 // The set with location l in it, if there is such a location.
 fn with_location(l: u8, set: u8) -> u8
     ensures { result ≡ joined l set }
 {
-    if 8 <= l {
+    if 8 <= l || is_in(set, l) {
         return set;
     }
-    if is_in(set, l) {
-        return set;
-    }
-    set + POWERS[l as usize]
+    set + (1u8 << l)
 }
 
 // Whether the row holds an access that reads.
@@ -30,17 +26,7 @@ pub fn is_reader(code: &Code, row: usize) -> bool
     requires { row < 96 }
     ensures { result ≡ first_takes (instruction_at code.now row ∷ []) }
 {
-    let b = code[row * 16];
-    if b == 0x11 {
-        return true;
-    }
-    if b == 0x12 {
-        return true;
-    }
-    if b == 0x13 {
-        return true;
-    }
-    false
+    matches!(code[row * 16], 0x11 | 0x12 | 0x13)
 }
 
 // What code may read that begins with the row's instruction, where the code behind it may read this.
@@ -70,29 +56,22 @@ fn behind(left: &[u8; 192], k: usize, i: usize, n: usize) -> u8
     requires { (i < 16) × (i + 1 < n → k < 192) }
     ensures { (i + 1 < n → result ≡ get_or left.now k 0) × (n ≤ i + 1 → result ≡ 0) }
 {
-    if i + 1 < n {
-        return left[k];
-    }
-    0
+    if i + 1 < n { left[k] } else { 0 }
 }
 
 // The sets of all rows: of reads, then of writes.
-pub fn left_sets(code: &Code, lengths: &[usize; 6]) -> [u8; 192]
-    ensures { Left code.now lengths.now result }
+pub fn left_sets(program: &Compiled) -> [u8; 192]
+    ensures { Left program.now.code program.now.lengths result }
 {
     let mut left = [0u8; 192];
-    let mut row = 96;
-    while 0 < row {
-        row -= 1;
+    for row in (0..96).rev() {
         let i = row % 16;
-        let n = lengths[row / 16];
-        if i < n {
-            if n <= 16 {
-                let reads = behind(&left, row + 1, i, n);
-                let writes = behind(&left, row + 97, i, n);
-                left[row] = reads_from(code, row, reads);
-                left[row + 96] = writes_from(code, row, writes);
-            }
+        let n = program.lengths[row / 16];
+        if i < n && n <= 16 {
+            let reads = behind(&left, row + 1, i, n);
+            let writes = behind(&left, row + 97, i, n);
+            left[row] = reads_from(&program.code, row, reads);
+            left[row + 96] = writes_from(&program.code, row, writes);
         }
     }
     left

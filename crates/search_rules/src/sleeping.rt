@@ -11,10 +11,10 @@ ghost use Rattle.theory_sc.specs.Sleepers.{sleeps_in, unwoken, sleepers};
 ghost use Rattle.search_place.specs.Reached.{Reached};
 ghost use Rattle.search_rules.specs.Left.{Left, ShortAt, Rests, meets_at};
 
-use file_lines::wide;
-use file_rows::Code;
+use file_decoder::Compiled;
+use file_lines::{choose, wide};
 use machine_access::ThreadState;
-use search_place::{Place, addend, is_in, is_writer, location_at};
+use search_place::{Place, is_in, is_writer, location_at, power};
 
 // The access that a thread stands at: its location, and whether it could write.
 #[derive(Clone, Copy)]
@@ -24,13 +24,13 @@ pub struct Awaited {
 }
 
 // The access that thread t stands at; of a thread that has ended, location 0 and no write.
-fn access_of(code: &Code, lengths: &[usize; 6], at: &[usize; 6], t: usize) -> Awaited
-    requires { (t < 6) × ShortAt lengths.now at.now }
-    ensures { (σ : State) → Rests code.now lengths.now at.now σ
+fn access_of(program: &Compiled, at: &[usize; 6], t: usize) -> Awaited
+    requires { (t < 6) × ShortAt program.now.lengths at.now }
+    ensures { (σ : State) → Rests program.now.code program.now.lengths at.now σ
         → (result.location ≡ place σ t) × (result.writer ≡ may_write (thread_of σ t).local) }
 {
     let i = at[t];
-    if lengths[t] <= i {
+    if program.lengths[t] <= i {
         return Awaited {
             location: 0,
             writer: false,
@@ -38,8 +38,8 @@ fn access_of(code: &Code, lengths: &[usize; 6], at: &[usize; 6], t: usize) -> Aw
     }
     let row = t * 16 + i;
     Awaited {
-        location: location_at(code, row),
-        writer: is_writer(code, row),
+        location: location_at(&program.code, row),
+        writer: is_writer(&program.code, row),
     }
 }
 
@@ -61,13 +61,7 @@ pub fn meets(
         return false;
     }
     let row = u * 16 + i;
-    if is_in(left[row + 96], l) {
-        return true;
-    }
-    if !is_in(left[row], l) {
-        return false;
-    }
-    w
+    is_in(left[row + 96], l) || (w && is_in(left[row], l))
 }
 
 // Whether thread u is in the set, or nothing left to it could wake one that awaits this access.
@@ -83,83 +77,65 @@ fn is_quiet(
     ensures { (code : List ℕ) → Left code lengths.now left.now
         → result ≡ (has set u || not (meets_at code lengths.now at.now u a.location a.writer)) }
 {
-    if is_in(set, u) {
-        return true;
-    }
-    !meets(left, lengths, at, wide(u), a.location, a.writer)
+    is_in(set, u) || !meets(left, lengths, at, wide(u), a.location, a.writer)
 }
 
 // Whether thread t is in the set, and no thread outside could wake it.
-fn sleeps_in(
-    code: &Code,
-    lengths: &[usize; 6],
-    left: &[u8; 192],
-    at: &[usize; 6],
-    set: u8,
-    t: u8,
-) -> bool
-    requires { (t < 6) × ShortAt lengths.now at.now }
-    ensures { (σ : State) → Rests code.now lengths.now at.now σ
-        → Left code.now lengths.now left.now → result ≡ sleeps_in σ set t }
+fn sleeps_in(program: &Compiled, left: &[u8; 192], at: &[usize; 6], set: u8, t: u8) -> bool
+    requires { (t < 6) × ShortAt program.now.lengths at.now }
+    ensures { (σ : State) → Rests program.now.code program.now.lengths at.now σ
+        → Left program.now.code program.now.lengths left.now → result ≡ sleeps_in σ set t }
 {
     if !is_in(set, t) {
         return false;
     }
-    let a = access_of(code, lengths, at, wide(t));
-    let mut u = 0u8;
-    while u < 6 {
-        if !is_quiet(left, lengths, at, set, u, a) {
+    let a = access_of(program, at, wide(t));
+    for u in 0u8..6 {
+        if !is_quiet(left, &program.lengths, at, set, u, a) {
             return false;
         }
-        u += 1;
     }
     true
 }
 
 // What is left of the set when those that some thread outside could wake have gone.
-fn unwoken(code: &Code, lengths: &[usize; 6], left: &[u8; 192], at: &[usize; 6], set: u8) -> u8
-    requires { ShortAt lengths.now at.now }
-    ensures { (σ : State) → Rests code.now lengths.now at.now σ
-        → Left code.now lengths.now left.now → result ≡ unwoken σ set }
+fn unwoken(program: &Compiled, left: &[u8; 192], at: &[usize; 6], set: u8) -> u8
+    requires { ShortAt program.now.lengths at.now }
+    ensures { (σ : State) → Rests program.now.code program.now.lengths at.now σ
+        → Left program.now.code program.now.lengths left.now → result ≡ unwoken σ set }
 {
-    let b0 = sleeps_in(code, lengths, left, at, set, 0);
-    let b1 = sleeps_in(code, lengths, left, at, set, 1);
-    let b2 = sleeps_in(code, lengths, left, at, set, 2);
-    let b3 = sleeps_in(code, lengths, left, at, set, 3);
-    let b4 = sleeps_in(code, lengths, left, at, set, 4);
-    let b5 = sleeps_in(code, lengths, left, at, set, 5);
-    let three = addend(b0, 1) + addend(b1, 2) + addend(b2, 4);
-    three + addend(b3, 8) + addend(b4, 16) + addend(b5, 32)
+    let mut next = 0u8;
+    for t in 0u8..6 {
+        next += choose(sleeps_in(program, left, at, set, t), power(t), 0);
+    }
+    next
 }
 
 // Whether some of these late threads are asleep for good, where the threads stand so.
 pub fn some_asleep(
-    code: &Code,
-    lengths: &[usize; 6],
+    program: &Compiled,
     left: &[u8; 192],
     threads: [ThreadState; 6],
     late: u8,
 ) -> bool
     requires { (class : List ℕ) × (count : ℕ) × (groups : ℕ) × (x : Place) × (p : Program) × (v : Schedule)
-        × Reached code.now lengths.now class count groups x p v × (x.threads ≡ threads) × (x.late ≡ late)
-        × Left code.now lengths.now left.now }
+        × Reached program.now.code program.now.lengths class count groups x p v × (x.threads ≡ threads) × (x.late ≡ late)
+        × Left program.now.code program.now.lengths left.now }
     ensures { (class : List ℕ) (count groups : ℕ) (x : Place) (p : Program) (v : Schedule)
-        → Reached code.now lengths.now class count groups x p v → x.threads ≡ threads → x.late ≡ late
+        → Reached program.now.code program.now.lengths class count groups x p v → x.threads ≡ threads → x.late ≡ late
         → result ≡ not (eqb (sleepers (end_of p v) (late_set p v)) 0) }
 {
     if late == 0 {
         return false;
     }
-    let a = threads[0];
-    let b = threads[1];
-    let c = threads[2];
-    let d = threads[3];
-    let e = threads[4];
-    let f = threads[5];
-    let at = [a.at, b.at, c.at, d.at, e.at, f.at];
+    let mut at = [0usize; 6];
+    for t in 0..6 {
+        at[t] = threads[t].at;
+    }
     let mut set = late;
+    // Rounds, until no thread leaves the set: how many there are is not known before.
     while set != 0 {
-        let next = unwoken(code, lengths, left, &at, set);
+        let next = unwoken(program, left, &at, set);
         if next == set {
             return true;
         }

@@ -12,17 +12,6 @@ ghost use Rattle.search_place.specs.declared.place.Place.{Place};
 
 use file_lines::wide;
 
-// Whether thread u, which has this word, is of class g and the word is that one.
-fn is_twin(class: &[usize; 6], u: usize, g: usize, word: u64, own: u64) -> bool
-    requires { u < 6 }
-    ensures { result ≡ (eqb (get_or class.now u 0) g && eqb word own) }
-{
-    if class[u] != g {
-        return false;
-    }
-    word == own
-}
-
 // Whether a thread below `end` is of t's `02` line and has t's word.
 pub fn has_same_word(class: &[usize; 6], words: &[u64; 6], t: u8, end: u8) -> bool
     requires { (t < 6) × (end ≤ t) }
@@ -36,12 +25,10 @@ pub fn has_same_word(class: &[usize; 6], words: &[u64; 6], t: u8, end: u8) -> bo
     }
     let word = words[own];
     let last = wide(end);
-    let mut u = 0;
-    while u < last {
-        if is_twin(class, u, g, words[u], word) {
+    for u in 0..last {
+        if class[u] == g && words[u] == word {
             return true;
         }
-        u += 1;
     }
     false
 }

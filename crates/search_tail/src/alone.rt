@@ -1,5 +1,5 @@
 // Where only one thread has not ended the search does not branch: that thread runs to its end.
-ghost use Rattle.std.specs.Prelude.{◌≡◌, true, false, ◌||◌, List, ℕ, ◌*◌, ◌^◌, ◌<◌, ◌≤◌, length};
+ghost use Rattle.std.specs.Prelude.{◌≡◌, true, false, ◌||◌, List, ℕ, ◌*◌, ◌^◌, ◌<◌, ◌≤◌, length, MatchOption};
 ghost use Rattle.spec_file.specs.Program.{Program};
 ghost use Rattle.spec_schedules.specs.Order.{Schedule};
 ghost use Rattle.spec_schedules.specs.System.{ended};
@@ -15,11 +15,12 @@ ghost use Rattle.search_tail.specs.Runner.{RunnerOf, Settled};
 ghost use Rattle.search_tail.specs.Walked.{Adds};
 
 use crate::full::ROW;
+use file_decoder::Compiled;
 use file_lines::wide;
-use file_rows::Code;
 use listing_cursor::{Aim, is_meant, put_row};
 use machine::lean_step;
 use machine_access::ThreadState;
+use search_place::Place;
 use spec_file::STEPS;
 
 // One thread of a place, with memory and the steps so far, and whether an assertion of any thread failed.
@@ -32,112 +33,92 @@ pub struct Runner {
     pub failed: bool,
 }
 
-// A runner made of its five parts.
-pub fn runner_at(
-    thread: ThreadState,
-    memory: [u32; 8],
-    schedule: [u8; STEPS],
-    steps: usize,
-    failed: bool,
-) -> Runner
-    ensures { result ≡ record { thread = thread; memory = memory; schedule = schedule; steps = steps; failed = failed } }
-{
-    Runner {
-        thread: thread,
-        memory: memory,
-        schedule: schedule,
-        steps: steps,
-        failed: failed,
+impl Runner {
+    // Thread t of a place, and whether an assertion of any thread failed.
+    pub fn of(x: &Place, t: u8, failed: bool) -> Runner
+        requires { t < 6 }
+        ensures held { RunnerOf x.now t result }
+        ensures failed { result.failed ≡ failed }
+    {
+        let memory = x.memory;
+        let schedule = x.schedule;
+        Runner {
+            thread: x.threads[wide(t)],
+            memory,
+            schedule,
+            steps: x.steps,
+            failed,
+        }
     }
 }
 
-// The thread that alone is in the set; 6 where there are none or several.
-fn sole(live: u8) -> u8
-    ensures { (result ≤ 6) × (result < 6 → live ≡ 2 ^ result) }
+// The thread that alone is in the set.
+fn sole(live: u8) -> Option<u8>
+    ensures { MatchOption result Unit (λ t. (t < 6) × (live ≡ 2 ^ t)) }
 {
-    if live == 1 {
-        return 0;
+    match live {
+        1 => Some(0),
+        2 => Some(1),
+        4 => Some(2),
+        8 => Some(3),
+        16 => Some(4),
+        32 => Some(5),
+        _ => None,
     }
-    if live == 2 {
-        return 1;
-    }
-    if live == 4 {
-        return 2;
-    }
-    if live == 8 {
-        return 3;
-    }
-    if live == 16 {
-        return 4;
-    }
-    if live == 32 {
-        return 5;
-    }
-    6
 }
 
-// The thread whose steps are all that is left: the only one that has not ended, apart from the bound; any where all have ended; 6 where
+// The thread whose steps are all that is left: the only one that has not ended, apart from the bound; any where all have ended; none where
 // the search may branch.
-pub fn last_runner(live: u8, tight: bool) -> u8
-    ensures { (code lengths class : List ℕ) (threads groups : ℕ) (x : Place) (p : Program) (v : Schedule)
+pub fn last_runner(live: u8, tight: bool) -> Option<u8>
+    ensures within { MatchOption result Unit (λ t. t < 6) }
+    ensures settled { (code lengths class : List ℕ) (threads groups : ℕ) (x : Place) (p : Program) (v : Schedule)
         → Reached code lengths class threads groups x p v → x.live ≡ live
-        → (result < 6 → sleepers (end_of p v) (late_set p v) ≡ 0 → Settled p v result tight) × (6 ≤ result → ended SC (end_of p v) ≡ false) }
+        → MatchOption result (ended SC (end_of p v) ≡ false)
+        (λ t. sleepers (end_of p v) (late_set p v) ≡ 0 → Settled p v t tight) }
 {
     if live == 0 {
-        return 0;
+        return Some(0);
     }
     if tight {
-        return 6;
+        return None;
     }
     sole(live)
 }
 
-// Whether one of the two holds.
-fn either(a: bool, b: bool) -> bool
-    ensures { result ≡ (a || b) }
-{
-    if a {
-        return true;
-    }
-    b
-}
-
 // Runs thread t to its end and adds the row of the schedule that it comes to, if that is looked for and there is room; answers how many
 // rows there are.
-pub fn run_out(code: &Code, lengths: &[usize; 6], r: Runner, a: Aim, out: &mut [u8], t: u8) -> usize
+pub fn run_out(program: &Compiled, r: Runner, a: Aim, out: &mut [u8], t: u8) -> usize
     requires { ((class : List ℕ) × (threads : ℕ) × (groups : ℕ) × (x : Place) × (p : Program) × (v : Schedule)
-        × Reached code.now lengths.now class threads groups x p v × RunnerOf x t r)
+        × Reached program.now.code program.now.lengths class threads groups x p v × RunnerOf x t r)
         × (t < 6) × (a.rows ≤ a.room) × (a.room * 26 ≤ length out.old) }
     ensures within { result ≤ a.room }
     ensures added { (class : List ℕ) (threads groups : ℕ) (x : Place) (p : Program) (v : Schedule) (bound : List ℕ)
-        → Reached code.now lengths.now class threads groups x p v → RunnerOf x t r
+        → Reached program.now.code program.now.lengths class threads groups x p v → RunnerOf x t r
         → r.failed ≡ fails (end_of p v) → Settled p v t a.tight
         → Adds p a.room (found_behind a.failures p x.steps (bound_at a.tight bound x.steps) v)
         out.old a.rows out.new result }
 {
     let rows = a.rows;
-    if a.tight {
+    if a.tight || a.room <= rows {
         return rows;
     }
-    if a.room <= rows {
-        return rows;
+    let mut k = r;
+    let end = program.lengths[wide(t)];
+    // A step may leave out instructions: how many steps there are is not known before.
+    while k.thread.at < end {
+        let m = lean_step(program, k.thread, k.memory, t);
+        let memory = m.memory;
+        let n = k.steps;
+        k.thread = m.thread;
+        k.memory = memory;
+        k.schedule[n] = t;
+        k.steps = n + 1;
     }
-    let mut k = r.thread;
-    let mut memory = r.memory;
-    let mut schedule = r.schedule;
-    let mut n = r.steps;
-    let end = lengths[wide(t)];
-    while k.at < end {
-        let m = lean_step(code, lengths, k, memory, t);
-        k = m.thread;
-        memory = m.memory;
-        schedule[n] = t;
-        n += 1;
-    }
-    let f = either(k.failed, r.failed);
+    let f = k.failed || k.thread.failed;
     if !is_meant(a.failures, f) {
         return rows;
     }
-    put_row(&mut out[rows * ROW..], STEPS, &schedule[..n], f);
+    let steps = &k.schedule[..k.steps];
+    put_row(&mut out[rows * ROW..], STEPS, steps, f);
     rows + 1
 }

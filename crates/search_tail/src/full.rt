@@ -19,24 +19,22 @@ use spec_file::STEPS;
 pub const ROW: usize = 26;
 
 // Adds the row of the full schedule, if it is looked for and there is room; answers how many rows there are.
-pub fn at_end(x: Place, a: Aim, out: &mut [u8]) -> usize
-    requires { (x.steps ≤ 24) × (a.rows ≤ a.room) × (a.room * 26 ≤ length out.old) }
+pub fn at_end(x: &Place, a: Aim, out: &mut [u8]) -> usize
+    requires { (x.now.steps ≤ 24) × (a.rows ≤ a.room) × (a.room * 26 ≤ length out.old) }
     ensures within { result ≤ a.room }
     ensures added { (code lengths class : List ℕ) (threads groups : ℕ) (p : Program) (v : Schedule)
-        → Reached code lengths class threads groups x p v → ended SC (end_of p v) ≡ true
-        → Adds p a.room (found_behind a.failures p x.steps none v) out.old a.rows out.new result }
+        → Reached code lengths class threads groups x.now p v → ended SC (end_of p v) ≡ true
+        → Adds p a.room (found_behind a.failures p x.now.steps none v) out.old a.rows out.new result }
 {
     let rows = a.rows;
     if a.room <= rows {
         return rows;
     }
-    let threads = x.threads;
-    let f = some_failed(threads);
+    let f = some_failed(x.threads);
     if !is_meant(a.failures, f) {
         return rows;
     }
-    let schedule = x.schedule;
-    let steps = x.steps;
-    put_row(&mut out[rows * ROW..], STEPS, &schedule[..steps], f);
+    let steps = &x.schedule[..x.steps];
+    put_row(&mut out[rows * ROW..], STEPS, steps, f);
     rows + 1
 }

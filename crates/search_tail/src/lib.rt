@@ -6,5 +6,5 @@ mod full;
 // The last running thread.
 mod alone;
 
-pub use alone::{Runner, last_runner, run_out, runner_at};
+pub use alone::{Runner, last_runner, run_out};
 pub use full::{ROW, at_end};

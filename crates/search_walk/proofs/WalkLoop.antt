@@ -6,7 +6,7 @@ use mathlib.Core.Option.{Option}
 use mathlib.Core.List.{List, [], ◌∷◌, ◌++◌}
 use native.Mathlib.Omega.{arith}
 use lib.Dec.{eqb}
-use lib.ListN.{length, get_or, length-append}
+use lib.ListN.{length, length-append}
 use borrow.Author.Tests.{eqb-true, eqb-false, not-true, not-false}
 use Rattle.spec_file.specs.Program.{Program}
 use Rattle.spec_schedules.specs.Order.{Schedule}
@@ -24,15 +24,12 @@ use Rattle.theory_sc.proofs.Search.{up_asleep, up_not, with_given_up, with_live,
 use Rattle.search_place.specs.Reached.{Reached}
 use Rattle.search_place.specs.declared.place.Place.{Place}
 use Rattle.search_place.proofs.ReachedStep.{reached_room}
-use Rattle.machine.specs.Held.{idle}
 use Rattle.listing_cursor.specs.Bounds.{bound_at}
 use Rattle.listing_cursor.specs.declared.aim.Aim.{Aim}
 use Rattle.listing_cursor.proofs.AddedRows.{adds_same}
 use Rattle.listing_cursor.proofs.WalkLoop as Loop
-use Rattle.search_tail.specs.Runner.{RunnerOf}
 use Rattle.search_walk.specs.Tried.{tried}
 use Rattle.search_tail.specs.Walked.{Adds}
-use Rattle.search_tail.specs.declared.alone.Runner.{Runner}
 use Rattle.search_walk.proofs.TriedSteps.{tried_enabled, tried_on_time, tried_alone, untried_none}
 
 -- ---- with one next step
@@ -88,16 +85,6 @@ as_aimed p b c steps bound v t out rows out' n ef et em adds =
     subst (λ (f : Bool). Adds p c.room (found_with f p steps (bound_at c.tight bound steps) v t) out rows out' n) ef
     (subst (λ (f : Bool). Adds p c.room (found_with b.failures p steps (bound_at f bound steps) v t) out rows out' n) et
     (subst (λ (k : ℕ). Adds p k (found_with b.failures p steps (bound_at b.tight bound steps) v t) out rows out' n) em adds))
-
--- the thread s, the u-th of the array, with memory and the steps
-pub runner_of : (x : Place) (s u : ℕ) (r : Runner) (f : Bool) → u ≡ s
-    → r ≡ record { thread = get_or x.threads u idle; memory = x.memory; schedule = x.schedule; steps = x.steps; failed = f } → RunnerOf x s r
-runner_of x s u r f eu er = record {
-  thread = ap (λ (i : ℕ). get_or x.threads i idle) (sym eu) ∙ ap (λ (k : Runner). k.thread) (sym er);
-  memory = ap (λ (k : Runner). k.memory) (sym er);
-  schedule = ap (λ (k : Runner). k.schedule) (sym er);
-  steps = ap (λ (k : Runner). k.steps) (sym er);
-}
 
 -- ---- over the next steps in turn
 -- the programs and prefixes that the place may stand for

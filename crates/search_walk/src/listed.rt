@@ -29,18 +29,15 @@ pub fn listed_rows(
         (take (length out.old / 26) (after (bound_at tight bound.now 0) (sought sc failures (program_of program))))
         out.old out.new result }
 {
-    let code = program.code;
-    let lengths = program.lengths;
-    let declared = program.class;
-    let starting = program.starting;
-    let class = known_lines(declared, program.groups);
-    let left = left_sets(&code, &lengths);
-    let x = begun(&code, &lengths, program.threads, starting);
+    let class = known_lines(program.class, program.groups);
+    let known = Compiled { class, ..program };
+    let left = left_sets(&known);
+    let x = begun(&known);
     let a = Aim {
-        failures: failures,
-        tight: tight,
+        failures,
+        tight,
         room: out.len() / ROW,
         rows: 0,
     };
-    walk(&code, &lengths, &class, &left, x, bound, a, out)
+    walk(&known, &left, x, bound, a, out)
 }

@@ -1,63 +1,49 @@
 -- Marks emptied and set, one step of a loop at a time.
-use Prim.Native.Nat.{ℕ, zero, suc, ◌≤◌, ◌<◌, ◌+◌, ◌%◌}
-use mathlib.Core.Path.{◌≡◌, refl, sym, ap, ap₂, subst, ◌∙◌}
-use mathlib.Core.Bool.{Bool, true, false, cond, false≢true, true≢false}
+use Prim.Native.Nat.{ℕ, zero, suc, ◌<◌, ◌+◌}
+use mathlib.Core.Path.{◌≡◌, sym, ap, subst, ◌∙◌}
+use mathlib.Core.Bool.{true, false, cond, false≢true, true≢false}
 use mathlib.Core.Option.{Option, none, some}
-use mathlib.Core.List.{List, [], ◌∷◌, map}
+use mathlib.Core.List.{List, map}
 use native.Mathlib.Omega.{arith}
-use native.Mathlib.Numerals.{add-one}
 use borrow.Author.Tests.{eq-eqb, ne_eqb}
-use lib.Dec.{eqb}
-use lib.ListN.{length, take, get_or, set, replicate}
+use lib.ListN.{length, get_or, replicate, get_or-map}
+use Rattle.std.proofs.lemmas.List.{length-map, ext_get_or}
+use denote.Param.Members.{Mut}
+use Rattle.std.specs.Fn.{Called}
+use Rattle.std.specs.Array.{MapsFrom, IsMapOf}
 use Rattle.spec_file.specs.Over.{over}
 use Rattle.spec_file.specs.Program.{Program}
 use Rattle.spec_service.specs.declared.caller.Caller.{Caller}
 use Rattle.spec_service.specs.declared.caller.Mark.{Mark}
 use Rattle.spec_service.specs.Seat.{Place}
 use Rattle.spec_service.specs.Record.{place_of, no_mark}
-use Rattle.spec_service.specs.Marks.{is_some, bears, last_handed, mark_at, new_mark, emptied}
+use Rattle.spec_service.specs.Marks.{is_some, bears, last_handed, mark_at, new_mark}
 use Rattle.service_record.specs.Tested.{is_place}
 use Rattle.service_marks.proofs.Named.{some_place}
 
--- ---- a function over the first k of a list
-unfoldable pub map_first : {A : Type 0} → (A → A) → ℕ → List A → List A
-map_first g zero l = l
-map_first g (suc k) [] = []
-map_first g (suc k) (x ∷ l) = g x ∷ map_first g k l
+-- ---- a function over an array, call by call
+module _ {F A B : Type 0} (g : Mut F (A × Unit {0}) B) (h : A → B) (f : F) (each : (x : A) (y : B) (q : F) → Called g f (x, tt) y q → (q ≡ f) × (y ≡ h x)) (xs : List A) (ys : List B) (d : A) where
+  -- from place i on
+  mapped_from : (i n : ℕ) → MapsFrom g f xs ys i n → (k : ℕ) → k < n → get_or ys (i + k) (h d) ≡ h (get_or xs (i + k) d)
+  mapped_from i zero m k b = absurd (omega (arith, b))
+  mapped_from i (suc n) m zero b =
+      let z : i ≡ i + 0 = omega arith in
+      subst (λ (j : ℕ). get_or ys j (h d) ≡ h (get_or xs j d)) z (m.4.1 (h d) ∙ (each m.1 m.2 m.0 m.5).1 ∙ sym (ap h (m.3.1 d)))
+  mapped_from i (suc n) m (suc k) b =
+      let z : i + 1 + k ≡ i + suc k = omega arith in
+      subst (λ (j : ℕ). get_or ys j (h d) ≡ h (get_or xs j d)) z (mapped_from (i + 1) n (subst (λ (q : F). MapsFrom g q xs ys (i + 1) n) (each m.1 m.2 m.0 m.5).0 m.6) k (omega (arith, b)))
 
-pub first_more : {A : Type 0} (g : A → A) (l : List A) (d : A) (k : ℕ) → k < length l → set (map_first g k l) k (g (get_or l k d)) ≡ map_first g (k + 1) l
-unfolding map_first
-first_more g [] d k h = absurd (omega (arith, h))
-first_more g (x ∷ l) d zero h = refl
-first_more g (x ∷ l) d (suc k) h = rw add-one (ap (λ (t : List _). g x ∷ t) (first_more g l d k (omega (arith, h)) ∙ rw add-one))
-
-pub first_all : {A : Type 0} (g : A → A) (l : List A) (k : ℕ) → length l ≤ k → map_first g k l ≡ map g l
-unfolding map_first
-first_all g [] zero h = refl
-first_all g [] (suc k) h = refl
-first_all g (x ∷ l) zero h = absurd (omega (arith, h))
-first_all g (x ∷ l) (suc k) h = ap (λ (t : List _). g x ∷ t) (first_all g l k (omega (arith, h)))
-
-pub length_first : {A : Type 0} (g : A → A) (l : List A) (k : ℕ) → length (map_first g k l) ≡ length l
-unfolding map_first
-length_first g l zero = refl
-length_first g [] (suc k) = refl
-length_first g (x ∷ l) (suc k) = ap suc (length_first g l k)
+  pub mapped : (n : ℕ) → length xs ≡ n → IsMapOf g f xs ys n → ys ≡ map h xs
+  mapped n l m = ext_get_or (h d) ys (map h xs) (m.long ∙ sym l ∙ sym (length-map xs h)) at
+    where
+      at : (k : ℕ) → k < length ys → get_or ys k (h d) ≡ get_or (map h xs) k (h d)
+      at k b =
+          let z : 0 + k ≡ k = omega arith in
+          subst (λ (j : ℕ). get_or ys j (h d) ≡ h (get_or xs j d)) z (mapped_from 0 n m.each k (omega (arith, b, m.long))) ∙ sym (get_or-map h xs k d)
 
 -- the marks of this name are emptied
 abbrev pub emptying : Program → List ℕ → Mark → Mark
 emptying p n m = cond (bears p n m) no_mark m
-
-pub emptied_all : (p : Program) (n : List ℕ) (ms : List Mark) (k : ℕ) → length ms ≤ k → map_first (emptying p n) k ms ≡ emptied p n ms
-unfolding emptied
-emptied_all p n ms k h = first_all (emptying p n) ms k h
-
-module _ (p : Program) (n : List ℕ) (m : Mark) where
-  pub without_borne : bears p n m ≡ true → no_mark ≡ emptying p n m
-  without_borne e = rw e
-
-  pub without_other : bears p n m ≡ false → m ≡ emptying p n m
-  without_other e = rw e
 
 -- ---- the last schedule handed
 module _ (p : Program) (c : Caller) where
@@ -76,7 +62,7 @@ module _ (n : List ℕ) (c : Caller) (b : List ℕ) (k : ℕ) (e : b ≡ over n 
   new_behind none h = absurd (false≢true h)
   new_behind (some x) h = λ i. record { name = e i; length = q i; place = 2; steps = c.size; schedule = c.newest }
 
-  pub new_first : (o : Option Place) → is_some o ≡ false → record { name = b; length = k; place = 1; steps = 0; schedule = replicate 24 0 } ≡ new_mark n c o
-  unfolding new_mark mark_at is_some
-  new_first none h = λ i. record { name = e i; length = q i; place = 1; steps = 0; schedule = replicate 24 0 }
-  new_first (some x) h = absurd (true≢false h)
+  pub new_first : (o : Option Place) → is_some o ≡ false → (m : Mark) → m ≡ no_mark → record { name = b; length = k; place = 1; steps = m.steps; schedule = m.schedule } ≡ new_mark n c o
+  unfolding new_mark mark_at is_some no_mark
+  new_first none h m f = λ i. record { name = e i; length = q i; place = 1; steps = (f i).steps; schedule = (f i).schedule }
+  new_first (some x) h m f = absurd (true≢false h)

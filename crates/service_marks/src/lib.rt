@@ -10,6 +10,6 @@ mod changing;
 // What comes before the marks: the refusals of calls for an open caller, and the record's program.
 mod before;
 
-pub use before::{first_refusal, open_refusal, program_of};
+pub use before::{by_number, first_refusal, open_refusal, program_of};
 pub use changing::{forgotten, marked, returned_to};
 pub use slots::{slot_for, slot_of};

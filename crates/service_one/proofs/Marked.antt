@@ -1,11 +1,14 @@
 -- What set, return and forget do, way by way of the code.
 use Prim.Native.Nat.{ℕ, ◌≤◌, ◌<◌}
-use mathlib.Core.Path.{◌≡◌, refl, sym, ap, subst, ◌∙◌}
+use mathlib.Core.Path.{◌≡◌, refl, sym, ap, ◌∙◌}
 use mathlib.Core.Bool.{Bool, true, false, cond, not, false≢true}
 use mathlib.Core.Option.{Option, none, some}
 use mathlib.Core.List.{List}
+use Rattle.std.specs.Prelude.{Some, None, Result, Ok, Err, ⊤}
+use Rattle.std.specs.Option as Code
+use Rattle.spec_file.specs.declared.refusal.Refusal.{Refusal}
 use native.Mathlib.Omega.{arith}
-use borrow.Author.Tests.{lt-ltb, le-ltb, eq-eqb, ne_eqb, eqb-true, ltb-false}
+use borrow.Author.Tests.{le-ltb, eq-eqb, eqb-true, ltb-false}
 use lib.Dec.{eqb, ltb}
 use lib.ListN.{length, get_or, set}
 use Rattle.spec_file.specs.Program.{Program}
@@ -16,21 +19,25 @@ use Rattle.spec_service.specs.Record.{reading, fresh, no_mark, with_marks, retur
 use Rattle.spec_service.specs.Marks.{is_some, name_fits, slot_of, slot_for, last_handed, new_mark, emptied, mark_set, mark_forgotten, mark_returned}
 use Rattle.spec_service.specs.Call.{Answer, done, refused, set_mark, return_to, forget, seat_of, checked, by_program, marks_only, done_if, marks_of, set_answer, known_only, changed, answer_to, callers_done}
 use Rattle.spec_service.proofs.Marks.{slot_of_lem, slot_for_lem}
-use Rattle.service_marks.specs.Numbers.{slot_number, refusal_of}
+use Rattle.service_marks.specs.Numbers.{slot_number, refused_by, open_refusal, refusal_of}
+use Rattle.service_one.specs.Left.{Left}
+use Rattle.service_one.proofs.Doing.{said}
 use Rattle.spec_service.specs.Reply.{shared}
 
 -- ---- what comes before the marks
 -- nothing is refused: four records, a caller of them that is open, a name of a right length
-pub passed : (n k : ℕ) (o f : Bool) → refusal_of n k o f ≡ 0 → (n ≡ 4) × (k ≤ 3) × (o ≡ true) × (f ≡ true)
-unfolding refusal_of
-passed n k o f e = go (eqb n 4) (ltb 3 k) o f refl refl refl refl e
+pub passed : (n k : ℕ) (o f : Bool) (u : ⊤) → refusal_of n k o f ≡ Ok u → (n ≡ 4) × (k ≤ 3) × (o ≡ true) × (f ≡ true)
+unfolding refusal_of open_refusal
+passed n k o f u e = go (eqb n 4) (ltb 3 k) o f refl refl refl refl e
   where
-    go : (t u o' f' : Bool) → eqb n 4 ≡ t → ltb 3 k ≡ u → o ≡ o' → f ≡ f' → ◌≡◌ {A = ℕ} (cond t (cond u 42 (cond o' (cond f' 0 45) 44)) 22) 0 → (n ≡ 4) × (k ≤ 3) × (o ≡ true) × (f ≡ true)
+    go : (t v o' f' : Bool) → eqb n 4 ≡ t → ltb 3 k ≡ v → o ≡ o' → f ≡ f'
+        → ◌≡◌ {A = Result ⊤ Refusal} (elim (cond t (cond v (refused_by 42) (cond o' (Ok (tt {0})) (refused_by 44))) (refused_by 22)) as (λ (w : Result ⊤ Refusal). Result ⊤ Refusal) [ Ok u ↦ cond f' (Ok tt) (refused_by 45) | Err r ↦ Err r ]) (Ok u)
+        → (n ≡ 4) × (k ≤ 3) × (o ≡ true) × (f ≡ true)
     go true false true true a b c d h = (eqb-true n 4 a, ltb-false 3 k b, c, d)
-    go true false true false a b c d h = absurd (omega (arith, h))
-    go true false false f' a b c d h = absurd (omega (arith, h))
-    go true true o' f' a b c d h = absurd (omega (arith, h))
-    go false u o' f' a b c d h = absurd (omega (arith, h))
+    go true false true false a b c d h = cc
+    go true false false f' a b c d h = cc
+    go true true o' f' a b c d h = cc
+    go false v o' f' a b c d h = cc
 
 -- by the program of an open seat
 by_open : {A : Type 0} (s : Seat) (p : Program) (z : A) (f : Program → A) → by_program s none some ≡ some p → by_program s z f ≡ f p
@@ -39,44 +46,58 @@ by_open closed p z f e = let w : ◌≡◌ {A = ℕ} 0 1 = cc in absurd (omega a
 by_open (active p' x a) p z f e = let w : p' ≡ p = cc in ap f w
 
 -- ---- slots
-taken : (o : Option ℕ) (i : ℕ) → i ≡ slot_number o → i ≤ 7 → o ≡ some i
+taken : (o : Option ℕ) (i : ℕ) → slot_number o ≡ Some i → o ≡ some i
 unfolding slot_number
-taken none i e h = absurd (omega (arith, e, h))
-taken (some j) i e h = ap some (sym e)
+taken none i e = cc
+taken (some j) i e = let z : j ≡ i = cc in ap some z
 
-missing : (o : Option ℕ) (i : ℕ) → i ≡ slot_number o → 7 < i → ((j : ℕ) → o ≡ some j → j < 8) → o ≡ none
+missing : (o : Option ℕ) → slot_number o ≡ None → o ≡ none
 unfolding slot_number
-missing none i e h b = refl
-missing (some j) i e h b = absurd (omega (arith, e, h, b j refl))
+missing none e = refl
+missing (some j) e = cc
 
-module _ (cs : List Caller) (k m : ℕ) (name : List ℕ) (r : Caller) (q : r ≡ get_or cs k fresh) where
+-- a slot is one of eight
+pub set_below : (p : Program) (name : List ℕ) (ms : List Mark) (i : ℕ) → slot_number (slot_for p name ms) ≡ Some i → i < 8
+set_below p name ms i s = (slot_for_lem p name ms i (taken _ i s)).0
+
+pub return_below : (p : Program) (name : List ℕ) (ms : List Mark) (i : ℕ) → slot_number (slot_of p name ms) ≡ Some i → i < 8
+return_below p name ms i s = (slot_of_lem p name ms i (taken _ i s)).0
+
+-- what comes first says what a call on marks answers
+marks_said : (cs : List Caller) (k : ℕ) (name : List ℕ) (f : Program → Answer)
+    → marks_only cs k name f ≡ said (refusal_of (length cs) k (is_open (seat_of cs k)) (name_fits (length name))) (by_program (seat_of cs k) (refused 44 0) f)
+unfolding marks_only checked refusal_of open_refusal by_program is_open
+marks_said cs k name f = go (eqb (length cs) 4) (ltb 3 k) (seat_of cs k) (name_fits (length name))
+  where
+    go : (t u : Bool) (s : Seat) (v : Bool)
+        → cond (not t) (refused 22 0) (cond u (refused 42 0) (by_program s (refused 44 0) (λ p. cond v (f p) (refused 45 0))))
+        ≡ said (elim (cond t (cond u (refused_by 42) (cond (is_open s) (Ok (tt {0})) (refused_by 44))) (refused_by 22)) as (λ (w : Result ⊤ Refusal). Result ⊤ Refusal) [ Ok u ↦ cond v (Ok tt) (refused_by 45) | Err r ↦ Err r ]) (by_program s (refused 44 0) f)
+    go false u s v = refl
+    go true true s v = refl
+    go true false closed v = refl
+    go true false (active p x a) false = refl
+    go true false (active p x a) true = refl
+
+module _ (cs : List Caller) (k : ℕ) (name : List ℕ) (r : Caller) (q : r ≡ get_or cs k fresh) where
   -- ---- refused before the marks
-  module _ (n w : ℕ) (l : length cs ≡ n) (e : w ≡ refusal_of n k (is_open (reading r)) (name_fits (length name))) (d : w ≡ 0 → ⊥) where
-    first_refused : (f : Program → Answer) → marks_only cs k name f ≡ refused w 0
-    unfolding marks_only checked refusal_of by_program is_open seat_of
+  module _ (n : ℕ) (l : length cs ≡ n) (e : Refusal) (w : refusal_of n k (is_open (reading r)) (name_fits (length name)) ≡ Err e) where
+    first_refused : (f : Program → Answer) → marks_only cs k name f ≡ refused e.number e.place
+    unfolding seat_of
     first_refused f =
-        subst (λ (c : Caller). checked cs k (by_program (reading c) (refused 44 0) (λ p. cond (name_fits (length name)) (f p) (refused 45 0))) ≡ refused w 0) q
-        (go (eqb (length cs) 4) (ltb 3 k) (reading r) (name_fits (length name)) (e ∙ ap (λ (j : ℕ). refusal_of j k (is_open (reading r)) (name_fits (length name))) (sym l)))
-      where
-        go : (t u : Bool) (s : Seat) (v : Bool) → w ≡ cond t (cond u 42 (cond (is_open s) (cond v 0 45) 44)) 22
-            → cond (not t) (refused 22 0) (cond u (refused 42 0) (by_program s (refused 44 0) (λ p. cond v (f p) (refused 45 0)))) ≡ refused w 0
-        go false u s v z = ap (λ (j : ℕ). refused j 0) (sym z)
-        go true true s v z = ap (λ (j : ℕ). refused j 0) (sym z)
-        go true false closed v z = ap (λ (j : ℕ). refused j 0) (sym z)
-        go true false (active p x a) false z = ap (λ (j : ℕ). refused j 0) (sym z)
-        go true false (active p x a) true z = absurd (d z)
+        marks_said cs k name f
+        ∙ ap (λ (v : Result ⊤ Refusal). said v (by_program (seat_of cs k) (refused 44 0) f)) ((λ i. refusal_of (l i) k (is_open (reading (sym q i))) (name_fits (length name))) ∙ w)
 
-    pub set_early : answer_to (set_mark k name) (shared cs m) ≡ refused w 0
+    pub set_refused : Left (set_mark k name) cs k (Err e)
     unfolding answer_to set_answer
-    set_early = first_refused _
+    set_refused m = first_refused _
 
-    pub return_early : answer_to (return_to k name) (shared cs m) ≡ refused w 0
+    pub return_refused : Left (return_to k name) cs k (Err e)
     unfolding answer_to known_only
-    return_early = first_refused _
+    return_refused m = first_refused _
 
-    pub forget_early : answer_to (forget k name) (shared cs m) ≡ refused w 0
+    pub forget_refused : Left (forget k name) cs k (Err e)
     unfolding answer_to known_only
-    forget_early = first_refused _
+    forget_refused m = first_refused _
 
   -- ---- an open caller and a name of a right length
   module _ (l : length cs ≡ 4) (b : k ≤ 3) (fits : name_fits (length name) ≡ true) (p : Program) (o : by_program (reading r) none some ≡ some p) where
@@ -97,67 +118,51 @@ module _ (cs : List Caller) (k m : ℕ) (name : List ℕ) (r : Caller) (q : r �
     own_marks = ap (λ (c : Caller). c.marks) q
 
     -- ---- set
-    module _ (i : ℕ) (s : i ≡ slot_number (slot_for p name r.marks)) where
-      pub set_47 : 7 < i → answer_to (set_mark k name) (shared cs m) ≡ refused 47 0
-      unfolding answer_to set_answer done_if is_some
-      set_47 z =
-          let e = missing (slot_for p name r.marks) i s z (λ j y. (slot_for_lem p name r.marks j y).0) in
-          marks_by (λ p. done_if (is_some (slot_for p name (marks_of cs k))) 47)
-          ∙ ap (λ (x : Option ℕ). done_if (is_some x) 47) (ap (slot_for p name) (sym own_marks) ∙ e)
+    set_known : (o : Option ℕ) → slot_for p name r.marks ≡ o → (m : ℕ) → answer_to (set_mark k name) (shared cs m) ≡ done_if (is_some o) 47
+    unfolding answer_to set_answer
+    set_known o e m =
+        marks_by (λ p. done_if (is_some (slot_for p name (marks_of cs k))) 47)
+        ∙ ap (λ (x : Option ℕ). done_if (is_some x) 47) (ap (slot_for p name) (sym own_marks) ∙ e)
 
-      pub set_done : i ≤ 7 → answer_to (set_mark k name) (shared cs m) ≡ done
-      unfolding answer_to set_answer done_if is_some
-      set_done z =
-          marks_by (λ p. done_if (is_some (slot_for p name (marks_of cs k))) 47)
-          ∙ ap (λ (x : Option ℕ). done_if (is_some x) 47) (ap (slot_for p name) (sym own_marks) ∙ taken (slot_for p name r.marks) i s z)
+    pub set_47 : slot_number (slot_for p name r.marks) ≡ None → Left (set_mark k name) cs k (refused_by 47)
+    unfolding done_if is_some
+    set_47 s m = set_known none (missing _ s) m
 
-      set_record : i ≤ 7 → mark_set p name r ≡ with_marks r (set (emptied p name r.marks) i (new_mark name r (last_handed p r)))
-      unfolding mark_set
-      set_record z = rw (taken (slot_for p name r.marks) i s z, mark_set)
-
-      pub set_list : i ≤ 7 → (x : Caller) → x ≡ with_marks r (set (emptied p name r.marks) i (new_mark name r (last_handed p r))) → set cs k x ≡ callers_done (set_mark k name) cs
-      unfolding callers_done
-      set_list z x e = ap (set cs k) (e ∙ sym (set_record z)) ∙ changed_by (λ p. mark_set p name)
+    module _ (i : ℕ) (s : slot_number (slot_for p name r.marks) ≡ Some i) where
+      pub set_done : Left (set_mark k name) cs k (Ok (with_marks r (set (emptied p name r.marks) i (new_mark name r (last_handed p r)))))
+      unfolding done_if is_some callers_done mark_set with_marks
+      set_done m = (set_known (some i) (taken _ i s) m, ap (set cs k) (sym record_is) ∙ changed_by (λ p. mark_set p name))
+        where
+          record_is : mark_set p name r ≡ with_marks r (set (emptied p name r.marks) i (new_mark name r (last_handed p r)))
+          record_is = rw (taken (slot_for p name r.marks) i s, mark_set)
 
     -- ---- return and forget
-    module _ (i : ℕ) (s : i ≡ slot_number (slot_of p name r.marks)) where
-      unknown : 7 < i → known_only cs k name ≡ refused 46 0
-      unfolding known_only done_if is_some
-      unknown z =
-          let e = missing (slot_of p name r.marks) i s z (λ j y. (slot_of_lem p name r.marks j y).0) in
-          marks_by (λ p. done_if (is_some (slot_of p name (marks_of cs k))) 46)
-          ∙ ap (λ (x : Option ℕ). done_if (is_some x) 46) (ap (slot_of p name) (sym own_marks) ∙ e)
+    known : (o : Option ℕ) → slot_of p name r.marks ≡ o → known_only cs k name ≡ done_if (is_some o) 46
+    unfolding known_only
+    known o e =
+        marks_by (λ p. done_if (is_some (slot_of p name (marks_of cs k))) 46)
+        ∙ ap (λ (x : Option ℕ). done_if (is_some x) 46) (ap (slot_of p name) (sym own_marks) ∙ e)
 
-      known : i ≤ 7 → known_only cs k name ≡ done
-      unfolding known_only done_if is_some
-      known z =
-          marks_by (λ p. done_if (is_some (slot_of p name (marks_of cs k))) 46)
-          ∙ ap (λ (x : Option ℕ). done_if (is_some x) 46) (ap (slot_of p name) (sym own_marks) ∙ taken (slot_of p name r.marks) i s z)
+    pub return_46 : slot_number (slot_of p name r.marks) ≡ None → Left (return_to k name) cs k (refused_by 46)
+    unfolding answer_to done_if is_some
+    return_46 s m = known none (missing _ s)
 
-      pub return_46 : 7 < i → answer_to (return_to k name) (shared cs m) ≡ refused 46 0
-      unfolding answer_to
-      return_46 z = unknown z
+    pub forget_46 : slot_number (slot_of p name r.marks) ≡ None → Left (forget k name) cs k (refused_by 46)
+    unfolding answer_to done_if is_some
+    forget_46 s m = known none (missing _ s)
 
-      pub return_done : i ≤ 7 → answer_to (return_to k name) (shared cs m) ≡ done
-      unfolding answer_to
-      return_done z = known z
+    module _ (i : ℕ) (s : slot_number (slot_of p name r.marks) ≡ Some i) where
+      pub return_done : Left (return_to k name) cs k (Ok (returned r (get_or r.marks i no_mark)))
+      unfolding answer_to done_if is_some callers_done mark_returned returned
+      return_done m = (known (some i) (taken _ i s), ap (set cs k) (sym record_is) ∙ changed_by (λ p. mark_returned p name))
+        where
+          record_is : mark_returned p name r ≡ returned r (get_or r.marks i no_mark)
+          record_is = rw (taken (slot_of p name r.marks) i s, mark_returned)
 
-      return_record : i ≤ 7 → mark_returned p name r ≡ returned r (get_or r.marks i no_mark)
-      unfolding mark_returned
-      return_record z = rw (taken (slot_of p name r.marks) i s z, mark_returned)
-
-      pub return_list : i ≤ 7 → (x : Caller) → x ≡ returned r (get_or r.marks i no_mark) → set cs k x ≡ callers_done (return_to k name) cs
-      unfolding callers_done
-      return_list z x e = ap (set cs k) (e ∙ sym (return_record z)) ∙ changed_by (λ p. mark_returned p name)
-
-      pub forget_46 : 7 < i → answer_to (forget k name) (shared cs m) ≡ refused 46 0
-      unfolding answer_to
-      forget_46 z = unknown z
-
-      pub forget_done : i ≤ 7 → answer_to (forget k name) (shared cs m) ≡ done
-      unfolding answer_to
-      forget_done z = known z
-
-    pub forget_list : (x : Caller) → x ≡ mark_forgotten p name r → set cs k x ≡ callers_done (forget k name) cs
-    unfolding callers_done
-    forget_list x e = ap (set cs k) e ∙ changed_by (λ p. mark_forgotten p name)
+    pub forget_done : Code.is_some (slot_number (slot_of p name r.marks)) ≡ true → Left (forget k name) cs k (Ok (mark_forgotten p name r))
+    unfolding answer_to done_if is_some callers_done slot_number
+    forget_done s m = (known (slot_of p name r.marks) refl ∙ go (slot_of p name r.marks) s, changed_by (λ p. mark_forgotten p name))
+      where
+        go : (o : Option ℕ) → Code.is_some (slot_number o) ≡ true → done_if (is_some o) 46 ≡ done
+        go none h = absurd (false≢true h)
+        go (some i) h = refl

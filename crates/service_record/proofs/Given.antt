@@ -1,6 +1,8 @@
 -- What there is for a record, way by way of the code.
-use Rattle.std.proofs.Common.{◌≡◌, ℕ, ◌+◌, ◌%◌, ◌^◌, ◌<◌, ◌≤◌, Bool, true, false, cond, eqb, List, [], ◌∷◌, length, take, replicate, sym, refl, ap, ◌∙◌, subst, true≢false, mod-eq_of_lt, arith, le-ltb, lt-ltb, eq-eqb, ne_eqb}
+use Rattle.std.proofs.Common.{◌≡◌, ℕ, ◌<◌, ◌≤◌, Bool, true, false, cond, eqb, List, [], ◌∷◌, length, take, replicate, sym, refl, ap, ◌∙◌, subst, arith, le-ltb, lt-ltb, eq-eqb, ne_eqb}
 use mathlib.Core.Option.{Option, none, some}
+use Rattle.std.specs.Prelude.{Some, None, Ok, Err}
+use Rattle.std.specs.Prelude as Code
 use Rattle.spec_file.specs.Program.{Program}
 use Rattle.spec_file.specs.WellFormed.{WellFormed}
 use Rattle.spec_file.specs.Decode.{Decoded, accepted, decode}
@@ -21,10 +23,10 @@ use Rattle.spec_sc.specs.Sequential.{sc}
 use Rattle.spec_sc.proofs.Admits.{sc_admits}
 use Rattle.spec_sc.proofs.Refused.{refusal_of, refuses_replayed}
 use Rattle.listing.specs.AnswerOf.{list_answer_of}
-use Rattle.listing.specs.declared.calling.ListAnswer.TheVariants.{Found, NoMore, Refused}
+use Rattle.spec_file.specs.declared.refusal.Refusal.{Refusal}
 use Rattle.spec_service.specs.declared.caller.Caller.{Caller}
 use Rattle.spec_service.specs.Seat.{Place, beginning, behind, end, to_come, Seat, closed, active}
-use Rattle.spec_service.specs.Record.{file_read, behind_full, place_of, seated, reading, record_by, served, standing, handing, counting}
+use Rattle.spec_service.specs.Record.{file_read, behind_full, place_of, seated, reading}
 use Rattle.spec_service.specs.Call.{for_seat}
 use Rattle.spec_service.proofs.Fates.{come_full}
 use Rattle.spec_service.proofs.Readings.{active_formed}
@@ -33,46 +35,28 @@ use Rattle.service_record.specs.declared.next.Next.{Next}
 use Rattle.service_record.specs.Next.{next_of, found_in, Short}
 use Rattle.service_record.proofs.Opened.{read_long, read_file, read_refused, read_accepted}
 
--- ---- a record behind what it was given
-module _ (c : Caller) (n : Next) where
-  -- behind a schedule, which is the last one handed, with this count
-  abbrev pub behind_found : ℕ → Caller
-  behind_found m = record_by c.file c.length m (record { place = 2; asking = 0; steps = n.steps; schedule = n.schedule })
-      (record { handed = 1; size = n.steps; newest = n.schedule }) c.marks c.padding
-
-  pub served_found : (m : ℕ) → m ≡ (c.count + 1) % 2 ^ 64 → n.found ≡ true → (o : Option Schedule) → n ≡ next_of o → behind_found m ≡ served c o
-  unfolding next_of served standing handing counting
-  served_found m g f (some s) e = λ i. record_by c.file c.length (g i) (record { place = 2; asking = 0; steps = (e i).steps; schedule = (e i).schedule })
-      (record { handed = 1; size = (e i).steps; newest = (e i).schedule }) c.marks c.padding
-  served_found m g f none e = absurd (true≢false (sym f ∙ ap (λ (m : Next). m.found) e))
-
-  pub served_none : n.found ≡ false → (o : Option Schedule) → n ≡ next_of o → standing c 3 n.steps n.schedule 0 ≡ served c o
-  unfolding next_of served
-  served_none f (some s) e = absurd (true≢false (sym (ap (λ (m : Next). m.found) e) ∙ f))
-  served_none f none e = λ i. standing c 3 (e i).steps (e i).schedule 0
-
 -- ---- what a call of the listing gave
-pub by_found : (n : ℕ) (out : List ℕ) (x : Answer) → Found n ≡ list_answer_of x → out ≡ content x (replicate 24 0) → Short x
-    → record { found = true; steps = n % 256; schedule = out } ≡ next_of (found_in x)
+-- a schedule, of this many steps
+pub by_found : (n : ℕ) (out : List ℕ) (x : Answer) → Ok (Some n) ≡ list_answer_of x → out ≡ content x (replicate 24 0) → Short x
+    → (n ≤ 24) × (Some (record { steps = n; schedule = out }) ≡ next_of (found_in x))
 unfolding list_answer_of content next_of found_in
 by_found n out (found s) e q h =
     let m : n ≡ length s = cc in
-    let k : n % 256 ≡ length s = mod-eq_of_lt (omega (arith, m, h)) ∙ m in
-    λ i. record { found = true; steps = k i; schedule = q i }
-by_found n out nomore e q h = let z : ◌≡◌ {A = ℕ} 0 1 = cc in absurd (omega arith)
-by_found n out (refused m k) e q h = let z : ◌≡◌ {A = ℕ} 0 1 = cc in absurd (omega arith)
+    (omega (arith, m, h), λ i. Some (record { steps = m i; schedule = q i }))
+by_found n out nomore e q h = cc
+by_found n out (refused m k) e q h = cc
 
-pub by_none : (x : Answer) → NoMore ≡ list_answer_of x → next_of none ≡ next_of (found_in x)
-unfolding list_answer_of found_in
-by_none (found s) e = let z : ◌≡◌ {A = ℕ} 0 1 = cc in absurd (omega arith)
+pub by_none : (x : Answer) → Ok None ≡ list_answer_of x → None ≡ next_of (found_in x)
+unfolding list_answer_of next_of found_in
+by_none (found s) e = cc
 by_none nomore e = refl
-by_none (refused m k) e = let z : ◌≡◌ {A = ℕ} 0 1 = cc in absurd (omega arith)
+by_none (refused m k) e = cc
 
-pub by_refused : (n k : ℕ) (x : Answer) → Refused n k ≡ list_answer_of x → next_of none ≡ next_of (found_in x)
-unfolding list_answer_of found_in
-by_refused n k (found s) e = let z : ◌≡◌ {A = ℕ} 0 1 = cc in absurd (omega arith)
-by_refused n k nomore e = let z : ◌≡◌ {A = ℕ} 0 1 = cc in absurd (omega arith)
-by_refused n k (refused m j) e = refl
+pub by_refused : (r : Refusal) (x : Answer) → Err r ≡ list_answer_of x → None ≡ next_of (found_in x)
+unfolding list_answer_of next_of found_in
+by_refused r (found s) e = cc
+by_refused r nomore e = cc
+by_refused r (refused m j) e = refl
 
 -- the output behind start and continue is what their answer leaves
 pub start_content : (file out : List ℕ) → (start_file sc file out).1 ≡ content (start_file sc file out).0 out
@@ -156,10 +140,10 @@ module _ (c : Caller) (l : c.length ≤ 4096) (file out : List ℕ) (part : file
       go (File.refused n k) q = gives_none c n k (seat_refused c n k (read_part ∙ q))
 
   -- ---- behind a schedule
-  module _ (s : Schedule) (d₁ : c.place ≡ 1 → ⊥) (e₂ : c.place ≡ 2) (few : c.steps ≤ 24) (is : s ≡ take c.steps c.schedule) where
+  module _ (s : Schedule) (e₂ : c.place ≡ 2) (few : c.steps ≤ 24) (is : s ≡ take c.steps c.schedule) where
     placed : (p : Program) → place_of p c.place c.steps c.schedule ≡ behind_full (replay p s) s
     unfolding place_of
-    placed p = rw (ne_eqb c.place 1 d₁, eq-eqb c.place 2 e₂, le-ltb 24 c.steps few) (ap (λ (t : Schedule). behind_full (replay p t) t) (sym is))
+    placed p = rw (e₂, le-ltb 24 c.steps few) (ap (λ (t : Schedule). behind_full (replay p t) t) (sym is))
 
     pub continue_given : Gives c (continue_file sc file s out).0
     unfolding continue_on continue_of to_come behind_full continued refusal_of
@@ -189,9 +173,9 @@ module _ (c : Caller) where
       go (accepted p) q = sym (seat_none c p q (h p))
       go (File.refused n k) q = sym (seat_refused c n k q)
 
-  pub none_steps : (c.place ≡ 1 → ⊥) → c.place ≡ 2 → 24 < c.steps → none ≡ for_seat (reading c)
+  pub none_steps : c.place ≡ 2 → 24 < c.steps → none ≡ for_seat (reading c)
   unfolding place_of
-  none_steps d e l = none_placed (λ p. rw (ne_eqb c.place 1 d, eq-eqb c.place 2 e, lt-ltb 24 c.steps l))
+  none_steps e l = none_placed (λ p. rw (e, lt-ltb 24 c.steps l))
 
   -- at the end, and where the place is none
   pub none_left : (c.place ≡ 1 → ⊥) → (c.place ≡ 2 → ⊥) → none ≡ for_seat (reading c)
@@ -215,10 +199,15 @@ given_short c s e = go (reading c) refl e
     go closed q h = let z : ◌≡◌ {A = ℕ} 0 1 = cc in absurd (omega arith)
     go (active p x a) q h = come_short p (active_formed c p x a q) x s h
 
-next_fits : (o : Option Schedule) → ((s : Schedule) → o ≡ some s → length s ≤ 24) → ((next_of o).steps ≤ 24) × (length (next_of o).schedule ≡ 24)
+-- what there is for a record is none, or fits its memory
+abbrev pub Fits : Code.Option Next → Type 0
+Fits None = Unit {0}
+Fits (Some n) = (n.steps ≤ 24) × (length n.schedule ≡ 24)
+
+next_fits : (o : Option Schedule) → ((s : Schedule) → o ≡ some s → length s ≤ 24) → Fits (next_of o)
 unfolding next_of
-next_fits none h = (omega arith, refl)
+next_fits none h = tt
 next_fits (some s) h = (h s refl, length_over s (replicate 24 0) (h s refl))
 
-pub next_small : (c : Caller) (x : Next) → x ≡ next_of (for_seat (reading c)) → (x.steps ≤ 24) × (length x.schedule ≡ 24)
-next_small c x e = subst (λ (y : Next). (y.steps ≤ 24) × (length y.schedule ≡ 24)) (sym e) (next_fits (for_seat (reading c)) (given_short c))
+pub next_small : (c : Caller) (x : Code.Option Next) → x ≡ next_of (for_seat (reading c)) → Fits x
+next_small c x e = subst Fits (sym e) (next_fits (for_seat (reading c)) (given_short c))

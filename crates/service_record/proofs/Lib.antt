@@ -3,3 +3,5 @@
 pub mod Opened
 -- what there is for a record, way by way of the code
 pub mod Given
+-- the record behind what a caller was given
+pub mod Handed

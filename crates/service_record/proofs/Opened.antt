@@ -1,14 +1,31 @@
 -- Whether a record is open, and whether it asks, way by way of the code.
 use Rattle.std.proofs.Common.{◌≡◌, ℕ, ◌<◌, ◌≤◌, Bool, true, false, cond, eqb, List, take, sym, refl, ap, ◌∙◌, le-ltb, lt-ltb, eq-eqb, ne_eqb}
+use Rattle.std.specs.Prelude.{Result, Ok, Err, ⊤, is_ok}
 use mathlib.Core.Option.{Option, none, some}
 use Rattle.spec_file.specs.Program.{Program}
 use Rattle.spec_file.specs.Decode.{Decoded, accepted, refused, decode}
+use Rattle.spec_file.specs.declared.refusal.Refusal.{Refusal}
+use Rattle.spec_schedules.specs.Order.{Schedule}
+use Rattle.spec_schedules.specs.System.{run}
+use Rattle.spec_sc.specs.State.{State, SC, start}
 use Rattle.spec_sc.specs.Replay.{Replayed, whole, replay}
+use Rattle.machine_replay.specs.declared.replaying.Run.{Run}
+use Rattle.machine_replay.specs.Carried.{verdict_of, HoldsRun}
 use Rattle.spec_sc.specs.Replay as Replay
 use Rattle.spec_service.specs.declared.caller.Caller.{Caller}
-use Rattle.spec_service.specs.Seat.{Place, end, closed, is_open, asks}
+use Rattle.spec_service.specs.Seat.{Place, closed, is_open, asks}
 use Rattle.spec_service.specs.Record.{file_read, behind_full, place_of, seated, seat_by, reading}
 use Rattle.service_record.specs.Tested.{is_whole, is_place}
+
+-- ---- a schedule
+-- whether it is full, by the end of its run
+pub whole_by_end : (code lengths : List ℕ) (p : Program) (s : Schedule) (r : Run) → HoldsRun code lengths p s r → is_ok r.end ≡ is_whole (replay p s)
+unfolding is_whole verdict_of
+whole_by_end code lengths p s r h = go r.end (run SC (start p) (take r.steps s)) ∙ ap is_whole h.answer
+  where
+    go : (v : Result ⊤ Refusal) (σ : State) → is_ok v ≡ is_whole (verdict_of v σ)
+    go (Ok _) σ = refl
+    go (Err q) σ = refl
 
 -- ---- a place
 whole_place : (r : Replayed) (s : List ℕ) → is_whole r ≡ is_place (behind_full r s)
@@ -17,25 +34,9 @@ whole_place (whole σ) s = refl
 whole_place (Replay.refused n k) s = refl
 
 module _ (p : Program) (n k : ℕ) (s : List ℕ) where
-  pub place_first : n ≡ 1 → true ≡ is_place (place_of p n k s)
-  unfolding place_of is_place
-  place_first e = rw (eq-eqb n 1 e)
-
-  pub place_long : (n ≡ 1 → ⊥) → n ≡ 2 → 24 < k → false ≡ is_place (place_of p n k s)
-  unfolding place_of is_place
-  place_long d e l = rw (ne_eqb n 1 d, eq-eqb n 2 e, lt-ltb 24 k l)
-
-  pub place_behind : (m : ℕ) → (n ≡ 1 → ⊥) → n ≡ 2 → k ≤ 24 → m ≡ k → is_whole (replay p (take m s)) ≡ is_place (place_of p n k s)
+  pub place_behind : (m : ℕ) → n ≡ 2 → k ≤ 24 → m ≡ k → is_whole (replay p (take m s)) ≡ is_place (place_of p n k s)
   unfolding place_of
-  place_behind m d e l q = ap (λ (j : ℕ). is_whole (replay p (take j s))) q ∙ rw (ne_eqb n 1 d, eq-eqb n 2 e, le-ltb 24 k l) (whole_place (replay p (take k s)) (take k s))
-
-  pub place_last : (n ≡ 1 → ⊥) → (n ≡ 2 → ⊥) → eqb n 3 ≡ is_place (place_of p n k s)
-  unfolding place_of is_place
-  place_last d e = rw (ne_eqb n 1 d, ne_eqb n 2 e) (go (eqb n 3))
-    where
-      go : (b : Bool) → b ≡ is_place (cond b (some end) none)
-      go true = refl
-      go false = refl
+  place_behind m e l q = ap (λ (j : ℕ). is_whole (replay p (take j s))) q ∙ rw (e, le-ltb 24 k l) (whole_place (replay p (take k s)) (take k s))
 
 -- ---- a record
 seated_open : (p : Program) (o : Option Place) (n : ℕ) → is_place o ≡ is_open (seated p o n)

@@ -9,7 +9,6 @@ use crate::next::Next;
 use file_rows::put_front;
 use spec_file::STEPS;
 use spec_service::{Caller, Mark};
-use std::num::wrapping_add_u64;
 
 // A mark that is free: nothing in it.
 pub fn no_mark() -> Mark
@@ -24,15 +23,7 @@ pub fn no_mark() -> Mark
     }
 }
 
-// Eight free marks.
-fn no_marks() -> [Mark; 8]
-    ensures { result ≡ replicate 8 no_mark }
-{
-    let m = no_mark();
-    [m; 8]
-}
-
-// A fresh record, as closing leaves it.
+// A fresh record, as closing leaves it: eight free marks, and nothing else in it.
 pub fn fresh_record() -> Caller
     ensures { result ≡ fresh }
 {
@@ -47,7 +38,7 @@ pub fn fresh_record() -> Caller
         handed: 0,
         size: 0,
         newest: [0u8; STEPS],
-        marks: no_marks(),
+        marks: [no_mark(); 8],
         padding: [0u8; 3],
     }
 }
@@ -58,51 +49,45 @@ pub fn opened_with(file: &[u8]) -> Caller
     ensures { result ≡ opened file.now }
 {
     let mut bytes = [0u8; 4096];
-    let n = file.len();
-    put_front(&mut bytes, file, n);
+    put_front(&mut bytes, file, file.len());
     Caller {
         file: bytes,
-        length: n,
-        count: 0,
+        length: file.len(),
         place: 1,
-        asking: 0,
-        steps: 0,
-        schedule: [0u8; STEPS],
-        handed: 0,
-        size: 0,
-        newest: [0u8; STEPS],
-        marks: no_marks(),
-        padding: [0u8; 3],
+        ..fresh_record()
     }
 }
 
 // The record, asking.
-pub fn asked(c: Caller) -> Caller
-    ensures { result ≡ asked c }
+pub fn asked(c: &Caller) -> Caller
+    ensures { result ≡ asked c.now }
 {
-    let mut r = c;
-    r.asking = 1;
-    r
+    Caller { asking: 1, ..*c }
 }
 
 // The record behind what it was given: a schedule, which counts, or no more.
-pub fn served(c: Caller, next: Next) -> Caller
-    ensures { (o : Option Schedule) → next ≡ next_of o → result ≡ served c o }
+pub fn served(c: &Caller, next: Option<Next>) -> Caller
+    ensures { (o : Option Schedule) → next ≡ next_of o → result ≡ served c.now o }
 {
+    let Some(next) = next else {
+        return Caller {
+            place: 3,
+            asking: 0,
+            steps: 0,
+            schedule: [0u8; STEPS],
+            ..*c
+        };
+    };
     let schedule = next.schedule;
-    let mut r = c;
-    r.asking = 0;
-    r.steps = next.steps;
-    r.schedule = schedule;
-    let more = wrapping_add_u64(c.count, 1);
-    if next.found {
-        r.place = 2;
-        r.handed = 1;
-        r.size = next.steps;
-        r.newest = schedule;
-        r.count = more;
-        return r;
+    Caller {
+        place: 2,
+        asking: 0,
+        steps: next.steps,
+        schedule,
+        handed: 1,
+        size: next.steps,
+        newest: schedule,
+        count: c.count.wrapping_add(1),
+        ..*c
     }
-    r.place = 3;
-    r
 }

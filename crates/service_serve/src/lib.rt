@@ -6,5 +6,5 @@ mod order;
 // What the caller gets whose turn it is.
 mod taken;
 
-pub use order::turn;
+pub use order::{asks_at, turn};
 pub use taken::serve_one;

@@ -1,79 +1,52 @@
 // Whose turn it is.
-ghost use Rattle.std.specs.Prelude.{◌≡◌, false, List, [], ◌∷◌, ℕ, ◌+◌, ◌%◌, ◌≤◌, length, get_or};
+ghost use Rattle.std.specs.Prelude.{◌≡◌, false, List, ℕ, length, get_or};
 ghost use Rattle.spec_schedules.specs.Lists.{find};
 ghost use Rattle.spec_service.specs.Call.{in_turn, serve_answer, last_after};
-ghost use Rattle.service_serve.specs.Turn.{Asking, number_of, turn_of};
+ghost use Rattle.service_serve.specs.Turn.{Asking, asks_at, number_of, turn_of};
 
+use service_marks::by_number;
 use service_one::{last_read, settle};
-use spec_file::STEPS;
+use service_record::asks;
+use spec_file::{Refusal, STEPS};
 use spec_service::Caller;
 
-// No caller's number: nobody asks, or the serve is refused.
-pub(crate) const NOBODY: usize = 4;
-
-pub(crate) const REFUSED: usize = 5;
-
-// What is said of caller k, where this is said of the four.
-fn of_four(a: bool, b: bool, c: bool, d: bool, k: usize) -> bool
-    ensures { result ≡ get_or (a ∷ b ∷ c ∷ d ∷ []) k false }
+// Whether caller k of a list asks, whose record is read where it lies.
+pub fn asks_at(callers: &[Caller], k: usize) -> bool
+    ensures { result ≡ asks_at callers.now k }
 {
-    if k == 0 {
-        return a;
-    }
-    if k == 1 {
-        return b;
-    }
-    if k == 2 {
-        return c;
-    }
-    if k == 3 {
-        return d;
+    if k < callers.len() {
+        return asks(&callers[k]);
     }
     false
 }
 
-// The caller so many places after this one, 0 after 3.
-fn place_after(last: u64, d: u64) -> usize
-    requires { (last ≤ 3) × (d ≤ 4) }
-    ensures { result ≡ (last + d) % 4 }
+// The next asking caller after the last one served, where these ask.
+fn next_asking(asking: &[bool; 4], last: u64) -> Option<usize>
+    ensures { result ≡ number_of (find (λ k. get_or asking.now k false) (in_turn last)) }
 {
-    ((last + d) % 4) as usize
+    let n = last_read(last) as usize;
+    (1..5).map(|d| (n + d) % 4).find(|k| asking[*k])
 }
 
-// The next asking caller after the last one served, which is at most 3, where these ask; NOBODY where none does.
-fn next_asking(a: bool, b: bool, c: bool, d: bool, last: u64) -> usize
-    ensures { result ≡ number_of (find (λ k. get_or (a ∷ b ∷ c ∷ d ∷ []) k false) (in_turn last)) }
-{
-    let n = last_read(last);
-    let mut i = 1;
-    while i <= 4 {
-        let k = place_after(n, i);
-        if of_four(a, b, c, d, k) {
-            return k;
-        }
-        i += 1;
-    }
-    NOBODY
-}
-
-// Whom a serve is about, of a list of n records of which these ask, with an output of so many bytes; that caller is then the last one served.
-// NOBODY where none asks, REFUSED where 22 refuses the serve.
-pub fn turn(n: usize, room: usize, a: bool, b: bool, c: bool, d: bool, last: &mut u64) -> usize
-    ensures { (cs : List Caller) (out : List ℕ) → length cs ≡ n → length out ≡ room → Asking cs a b c d →
+// Whom a serve is about, of a list of n records of which these ask, with an output of so many bytes; that caller is then the last one
+// served. None where nobody asks.
+pub fn turn(
+    n: usize,
+    room: usize,
+    asking: &[bool; 4],
+    last: &mut u64,
+) -> Result<Option<usize>, Refusal>
+    ensures { (cs : List Caller) (out : List ℕ) → length cs ≡ n → length out ≡ room → Asking cs asking.now →
         (result ≡ turn_of (serve_answer cs last.old out))
         × (last.new ≡ last_after (serve_answer cs last.old out) last.old) }
 {
-    if n != 4 {
-        return REFUSED;
+    if n != 4 || room < STEPS {
+        return Err(by_number(22));
     }
-    if room < STEPS {
-        return REFUSED;
-    }
-    let k = next_asking(a, b, c, d, *last);
-    if 3 < k {
+    let Some(k) = next_asking(asking, *last) else {
         settle(last);
-        return NOBODY;
-    }
+        return Ok(None);
+    };
     *last = k as u64;
-    k
+    Ok(Some(k))
 }

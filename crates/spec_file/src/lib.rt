@@ -8,7 +8,10 @@ mod limits;
 mod instruction;
 // The kinds of frame: their lengths and where their fields stand.
 mod kind;
+// Why something is refused.
+mod refusal;
 
 pub use instruction::{Access, Comparison, Instruction, Operand, Own, Test};
 pub use kind::Kind;
 pub use limits::STEPS;
+pub use refusal::Refusal;

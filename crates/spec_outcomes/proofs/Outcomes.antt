@@ -22,8 +22,8 @@ use Rattle.spec_sc.specs.Sequential.{sc}
 use Rattle.spec_sc.proofs.Laws.{sc_laws}
 use Rattle.spec_tso.specs.TotalStoreOrder.{tso}
 use Rattle.spec_tso.proofs.Laws.{tso_laws}
-use Rattle.spec_calls.specs.declared.rows_answer.RowsAnswer.{RowsAnswer}
-use Rattle.spec_calls.specs.declared.rows_answer.RowsAnswer.TheVariants.{Written, Refused}
+use Rattle.spec_file.specs.declared.refusal.Refusal.{Refusal}
+use Rattle.std.specs.Prelude.{Result, Ok, Err}
 use Rattle.spec_outcomes.specs.Firsts.{firsts_of}
 use Rattle.spec_outcomes.specs.OutcomesCall.{outcome_size, outcome_rows, page_of, outcomes_on, output_on, outcomes_file, outcomes_output}
 use Rattle.spec_outcomes.specs.Outcomes.{Outcomes}
@@ -44,11 +44,11 @@ module _ (M : Model) (L : Laws M) (file : List ℕ) (p : Program) (e : admit M (
   unfolding page_of
   how_many from out = length-take (length out / outcome_size M) (drop from (firsts_of M p)) ∙ ap (λ (n : ℕ). min (length out / outcome_size M) n) (length-drop from (firsts_of M p))
 
-  answered : (from : ℕ) (out : List ℕ) → outcome_size M ≤ length out → outcomes_file M file from out ≡ Written (length (page_of M p from out))
+  answered : (from : ℕ) (out : List ℕ) → outcome_size M ≤ length out → outcomes_file M file from out ≡ Ok (length (page_of M p from out))
   unfolding outcomes_on
   answered from out h =
       ap (λ (d : Decoded). outcomes_on M d from out) e
-      ∙ ap (λ (b : Bool). cond b (Refused 22 0) (Written (length (page_of M p from out)))) (le-ltb (length out) (outcome_size M) h)
+      ∙ ap (λ (b : Bool). cond b (Err (record { number = 22; place = 0 })) (Ok (length (page_of M p from out)))) (le-ltb (length out) (outcome_size M) h)
 
   in_front : (from : ℕ) (out : List ℕ) → outcomes_output M file from out ≡ over (outcome_rows M p (page_of M p from out)) out
   unfolding output_on
@@ -61,11 +61,11 @@ module _ (M : Model) (L : Laws M) (file : List ℕ) (p : Program) (e : admit M (
       let n = length out / outcome_size M in
       ap (λ (t : List Schedule). take n (drop from F) ++ t) (sym (drop-drop (length (take n (drop from F))) from F)) ∙ taken_rest n (drop from F)
 
-  over_when : (from : ℕ) (out : List ℕ) → outcome_size M ≤ length out → (outcomes_file M file from out ≡ Written 0) ↔ (length (firsts_of M p) ≤ from)
+  over_when : (from : ℕ) (out : List ℕ) → outcome_size M ≤ length out → (outcomes_file M file from out ≡ Ok 0) ↔ (length (firsts_of M p) ≤ from)
   over_when from out h =
       let one : 1 ≤ length out / outcome_size M = (le-div_iff_mul-le {k = outcome_size M} {x = 1} {y = length out} (omega arith)).1 (omega (arith, h)) in (
         (λ q. let z = sym (answered from out h) ∙ q in let y : length (page_of M p from out) ≡ 0 = cc in omega (arith, y, how_many from out, one)),
-        λ q. answered from out h ∙ ap {B = RowsAnswer} (λ n. Written n) (how_many from out ∙ omega (arith, q, one)),
+        λ q. answered from out h ∙ ap {B = Result ℕ Refusal} (λ n. Ok n) (how_many from out ∙ omega (arith, q, one)),
       )
 
   pub outcomes : Outcomes M file p
@@ -74,7 +74,7 @@ module _ (M : Model) (L : Laws M) (file : List ℕ) (p : Program) (e : admit M (
     first = first_least M L p a;
     once = attained_once M L p a;
     ascends = firsts_ascend M L p;
-    written = λ from out h. answered from out h ∙ ap {B = RowsAnswer} (λ n. Written n) (how_many from out);
+    written = λ from out h. answered from out h ∙ ap {B = Result ℕ Refusal} (λ n. Ok n) (how_many from out);
     output = in_front;
     pages = onward;
     ends = over_when;

@@ -1,6 +1,6 @@
 -- WHAT IS PROMISED OF THE OUTCOMES, of a memory model and a file that it lists. p is the program that the file is read as. All full schedules
 -- count, listed or not.
-use Rattle.std.specs.Prelude.{ℕ, ◌+◌, ◌-◌, ◌≤◌, ◌/◌, min, ◌≡◌, ◌↔◌, true, false, length, drop}
+use Rattle.std.specs.Prelude.{ℕ, ◌+◌, ◌-◌, ◌≤◌, ◌/◌, min, ◌≡◌, ◌↔◌, true, false, length, drop, Ok}
 use mathlib.Core.List.{List, ◌++◌, Memᴰ}
 use Rattle.spec_file.specs.Lists.{Ascends}
 use Rattle.spec_file.specs.Over.{over}
@@ -8,7 +8,6 @@ use Rattle.spec_file.specs.Program.{Program}
 use Rattle.spec_schedules.specs.Order.{Schedule, less}
 use Rattle.spec_model.specs.Model.{Model, Full}
 use Rattle.spec_model.specs.Alike.{Listed}
-use Rattle.spec_calls.specs.declared.rows_answer.RowsAnswer.TheVariants.{Written}
 use Rattle.spec_covers.specs.declared.outcome.Outcome.{Outcome}
 use Rattle.spec_across.specs.Under.{outcome_under, AttainsUnder}
 use Rattle.spec_outcomes.specs.Firsts.{firsts_of}
@@ -27,7 +26,7 @@ pub record Outcomes (M : Model) (file : List ℕ) (p : Program) : Type 0 where
   pub ascends : Ascends less (firsts_of M p)
   -- AS MANY ROWS as the output has room for, or as there are from this number on
   pub written : (from : ℕ) (out : List ℕ) → outcome_size M ≤ length out →
-      outcomes_file M file from out ≡ Written (min (length out / outcome_size M) (length (firsts_of M p) - from))
+      outcomes_file M file from out ≡ Ok (min (length out / outcome_size M) (length (firsts_of M p) - from))
   -- they stand in front of the output, and nothing else changes
   pub output : (from : ℕ) (out : List ℕ) → outcomes_output M file from out ≡ over (outcome_rows M p (page_of M p from out)) out
   -- PAGES: the rows of a page, and those from behind it on, are those from its number on
@@ -35,4 +34,4 @@ pub record Outcomes (M : Model) (file : List ℕ) (p : Program) : Type 0 where
       page_of M p from out ++ drop (from + length (page_of M p from out)) (firsts_of M p) ≡ drop from (firsts_of M p)
   -- NO ROW exactly from the number of outcomes on
   pub ends : (from : ℕ) (out : List ℕ) → outcome_size M ≤ length out →
-      (outcomes_file M file from out ≡ Written 0) ↔ (length (firsts_of M p) ≤ from)
+      (outcomes_file M file from out ≡ Ok 0) ↔ (length (firsts_of M p) ≤ from)

@@ -1,8 +1,9 @@
 -- What the call that gives all outcomes says of a program file, in any memory model: from a number on, counted from 0, as many rows as the
 -- output has room for stand in front of it. Refusals in order: the program's, what the model turns away, then 22 for an output that has not
 -- room for one row; no byte changes then.
-use Rattle.std.specs.Prelude.{ℕ, ◌+◌, ◌/◌, ◌%◌, ◌^◌, cond, ltb, length, take, drop}
+use Rattle.std.specs.Prelude.{ℕ, ◌+◌, ◌/◌, ◌%◌, ◌^◌, cond, ltb, length, take, drop, Result, Ok, Err}
 use mathlib.Core.List.{List, [], ◌∷◌, ◌++◌, flat_map}
+use Rattle.spec_file.specs.declared.refusal.Refusal.{Refusal}
 use Rattle.spec_file.specs.Over.{over}
 use Rattle.spec_file.specs.Program.{Program}
 use Rattle.spec_file.specs.Decode.{Decoded, accepted, refused, decode}
@@ -11,8 +12,6 @@ use Rattle.spec_model.specs.Model.{Model, failing}
 use Rattle.spec_model.specs.OnFile.{admit}
 use Rattle.spec_calls.specs.Rows.{row_of, row_size}
 use Rattle.spec_calls.specs.Scratch.{zeros}
-use Rattle.spec_calls.specs.declared.rows_answer.RowsAnswer.{RowsAnswer}
-use Rattle.spec_calls.specs.declared.rows_answer.RowsAnswer.TheVariants.{Written, Refused}
 use Rattle.spec_across.specs.Under.{outcome_under}
 use Rattle.spec_outcomes.specs.Firsts.{firsts_of}
 
@@ -38,9 +37,9 @@ module _ (M : Model) where
   page_of p from out = take (length out / outcome_size) (drop from (firsts_of M p))
 
   -- the number of rows written, or the refusal
-  unfoldable pub outcomes_on : Decoded → ℕ → List ℕ → RowsAnswer
-  outcomes_on (accepted p) from out = cond (ltb (length out) outcome_size) (Refused 22 0) (Written (length (page_of p from out)))
-  outcomes_on (refused n k) from out = Refused n k
+  unfoldable pub outcomes_on : Decoded → ℕ → List ℕ → Result ℕ Refusal
+  outcomes_on (accepted p) from out = cond (ltb (length out) outcome_size) (Err (record { number = 22; place = 0 })) (Ok (length (page_of p from out)))
+  outcomes_on (refused n k) from out = Err (record { number = n; place = k })
 
   -- the output behind the call; one that is shorter than a row has no row
   unfoldable pub output_on : Decoded → ℕ → List ℕ → List ℕ
@@ -48,13 +47,13 @@ module _ (M : Model) where
   output_on (refused n k) from out = out
 
   -- the call itself, on the file's bytes
-  abbrev pub outcomes_file : List ℕ → ℕ → List ℕ → RowsAnswer
+  abbrev pub outcomes_file : List ℕ → ℕ → List ℕ → Result ℕ Refusal
   outcomes_file file from out = outcomes_on (admit M (decode file)) from out
 
   abbrev pub outcomes_output : List ℕ → ℕ → List ℕ → List ℕ
   outcomes_output file from out = output_on (admit M (decode file)) from out
 
 -- the scratch behind it: zeros where the call answered, what was there where it refused
-unfoldable pub outcomes_scratch : RowsAnswer → List ℕ → List ℕ
-outcomes_scratch (Written n) scratch = zeros scratch
-outcomes_scratch (Refused n k) scratch = scratch
+unfoldable pub outcomes_scratch : Result ℕ Refusal → List ℕ → List ℕ
+outcomes_scratch (Ok n) scratch = zeros scratch
+outcomes_scratch (Err r) scratch = scratch

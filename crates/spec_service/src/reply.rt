@@ -1,4 +1,4 @@
-// What a call of four callers answers.
+// What a call of four callers answers that is not refused.
 
 #[derive(Clone, Copy)]
 pub enum Reply {
@@ -10,6 +10,4 @@ pub enum Reply {
     Ended(usize),
     // Nobody asks.
     Idle,
-    // The refusal's number and place.
-    Refused(u8, usize),
 }

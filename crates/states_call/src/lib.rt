@@ -4,4 +4,4 @@
 // Count and violation with a lent scratch.
 mod lent;
 
-pub use lent::{count_with, violation_with};
+pub use lent::{count_with, put_found, violation_with};

@@ -1,6 +1,6 @@
 -- The values of a key, thread by thread: of a thread that has not ended, those registers that its row's set has.
 use Prim.Native.Nat.{ℕ, zero, suc, ◌+◌, ◌-◌, ◌*◌, ◌/◌, ◌%◌, ◌<◌, ◌≤◌}
-use mathlib.Core.Path.{◌≡◌, refl, sym, ap, ap₂, subst, ◌∙◌}
+use mathlib.Core.Path.{◌≡◌, refl, sym, ap, ap₂, ◌∙◌}
 use mathlib.Core.Bool.{Bool, true, false, cond}
 use mathlib.Core.List.{List, [], ◌∷◌, ◌++◌, map, map-append, append-nil}
 use native.Mathlib.Omega.{arith}
@@ -22,7 +22,6 @@ use Rattle.spec_schedules.proofs.Kept.{filter_append, filter_length}
 use Rattle.spec_schedules.proofs.Lists.{range_length}
 use Rattle.spec_sc.specs.State.{State, Cell, thread_of, cell_of, fresh_cell, value_of, memory_of}
 use Rattle.spec_sc.proofs.Steps.{enabled_range}
-use Rattle.theory_sc.specs.Sets.{set_of}
 use Rattle.theory_sc.proofs.Sets.{set_has}
 use Rattle.theory_sc_key.specs.Registers.{live}
 use Rattle.theory_sc_key.specs.Key.{left_of, live_at, register_at, values_of}

@@ -1,6 +1,6 @@
 -- The key of a spot: its parts put together, with zeros behind.
 use Prim.Native.Nat.{ℕ, ◌+◌, ◌^◌, ◌<◌, ◌≤◌}
-use mathlib.Core.Path.{◌≡◌, refl, sym, ap, ap₂, subst, ◌∙◌}
+use mathlib.Core.Path.{◌≡◌, sym, ap, ap₂, subst, ◌∙◌}
 use mathlib.Core.List.{List, ◌∷◌, [], ◌++◌}
 use native.Mathlib.Omega.{arith}
 use lib.ListN.{length, get_or, take, length-append}
@@ -14,16 +14,15 @@ use Rattle.spec_schedules.specs.Order.{Schedule}
 use Rattle.spec_sc.specs.Graph.{end_of}
 use Rattle.spec_sc.specs.State.{State}
 use Rattle.theory_sc.specs.LateSet.{late_set}
-use Rattle.theory_sc.specs.ReadWords as ReadWords
 use Rattle.theory_sc.specs.ThreadWords.{digits}
 use Rattle.theory_sc.proofs.LateSet.{late_below}
-use Rattle.theory_sc_key.specs.Key.{Key, left_of, values_of, seen_with, key_of, pairs, words_of, padded, word_key}
+use Rattle.theory_sc_key.specs.Key.{Key, values_of, seen_with, key_of, pairs, words_of, padded, word_key}
 use Rattle.theory_sc_key.specs.Ways.{no_ways, ways_of, near_sets_by_word, carried_key}
 use Rattle.theory_sc_key.proofs.Packing.{pairs_half}
 use Rattle.theory_sc_key.proofs.Ways.{ways_start}
 use Rattle.states_live.specs.Live.{Live}
 use Rattle.states_key.specs.declared.spot.Spot.{Spot}
-use Rattle.states_key.specs.Stands.{place_of, Stands}
+use Rattle.states_key.specs.Stands.{carried, Stands}
 use Rattle.states_key.specs.Gathered.{gathered, left_at}
 use Rattle.states_key.proofs.Padding.{pairs_padded, padded_cut, padded_front}
 use Rattle.states_key.proofs.KeyValues.{gathered_few, values_held, left_held}
@@ -31,34 +30,9 @@ use Rattle.states_key.proofs.KeyValues.{gathered_few, values_held, left_held}
 -- ---- before the first step
 -- a place is reached by what it holds
 pub stands_first : (code lengths class : List ℕ) (threads groups : ℕ) (x : Place) (p : Program) → Reached code lengths class threads groups x p []
-    → Stands code lengths class threads groups (record {
-      threads = x.threads;
-      memory = x.memory;
-      words = x.words;
-      ways = 0 ∷ 0 ∷ 0 ∷ 0 ∷ 0 ∷ 0 ∷ [];
-      schedule = x.schedule;
-      stamps = x.stamps;
-      steps = x.steps;
-      late = x.late;
-      live = x.live;
-    }) p []
+    → Stands code lengths class threads groups (record { place = x; ways = 0 ∷ 0 ∷ 0 ∷ 0 ∷ 0 ∷ 0 ∷ [] }) p []
 unfolding no_ways
-stands_first code lengths class threads groups x p at = record {
-  reached = record {
-    loaded = at.loaded;
-    lines = at.lines;
-    allowed = at.allowed;
-    last = at.last;
-    holds = at.holds;
-    counted = at.counted;
-    schedule = at.schedule;
-    late = at.late;
-    live = at.live;
-    stamps = at.stamps;
-    words = at.words;
-  };
-  ways = sym (ways_start p);
-}
+stands_first code lengths class threads groups x p at = record { reached = at; ways = sym (ways_start p) }
 
 -- ---- the words of what a machine shows of the state that it holds, with a number in front and sets
 module _ (code lengths masks : List ℕ) (m : Machine) (σ : State) (held : Holds code lengths m σ) (lives : Live code lengths masks)
@@ -89,26 +63,26 @@ module _ (code lengths class masks : List ℕ) (threads groups : ℕ) (x : Spot)
   σ = end_of p v
 
   abbrev own : Machine
-  own = machine_of (place_of x) at.reached.last
+  own = machine_of x.place at.reached.last
 
-  pub stands_short : (t : ℕ) → t < 6 → (get_or x.threads t idle).at < get_or lengths t 0 → get_or lengths t 0 ≤ 16
-  stands_short = reached_short code lengths class threads groups (place_of x) p v at.reached
+  pub stands_short : (t : ℕ) → t < 6 → (get_or x.place.threads t idle).at < get_or lengths t 0 → get_or lengths t 0 ≤ 16
+  stands_short = reached_short code lengths class threads groups x.place p v at.reached
 
-  pub stands_late : x.late < 64
+  pub stands_late : x.place.late < 64
   stands_late = omega (arith, at.reached.late, late_below p v)
 
-  module _ (lives : Live code lengths masks) (carried : carried_key p v (end_of p v) ≡ key_of p v (end_of p v)) (first second n : ℕ) (values words : List ℕ)
-      (ef : first ≡ 2 ^ 63 + digits 64 (λ n. n) (x.late ∷ left_at lengths x.threads))
-      (es : second ≡ digits 64 (λ n. n) (near_sets_by_word p (record { stamps = x.stamps; words = x.words }) x.ways))
-      (ev : values ≡ padded 32 (gathered lengths masks x.threads 6 ++ x.memory)) (ew : words ≡ first ∷ second ∷ pairs values) where
+  module _ (lives : Live code lengths masks) (by_word : carried_key p v (end_of p v) ≡ key_of p v (end_of p v)) (first second n : ℕ) (values words : List ℕ)
+      (ef : first ≡ 2 ^ 63 + digits 64 (λ n. n) (x.place.late ∷ left_at lengths x.place.threads))
+      (es : second ≡ digits 64 (λ n. n) (near_sets_by_word p (carried x) x.ways))
+      (ev : values ≡ padded 32 (gathered lengths masks x.place.threads 6 ++ x.place.memory)) (ew : words ≡ first ∷ second ∷ pairs values) where
     abbrev near : List ℕ
-    near = near_sets_by_word p (record { stamps = x.stamps; words = x.words }) x.ways
+    near = near_sets_by_word p (carried x) x.ways
 
-    same_key : seen_with x.late near σ ≡ key_of p v (end_of p v)
+    same_key : seen_with x.place.late near σ ≡ key_of p v (end_of p v)
     same_key =
-        ap₂ (λ (l : ℕ) (w : List ℕ). seen_with l (near_sets_by_word p (record { stamps = x.stamps; words = x.words }) w) σ) at.reached.late at.ways
-        ∙ ap₂ (λ (s w : List ℕ). seen_with (late_set p v) (near_sets_by_word p (record { stamps = s; words = w }) (ways_of p v)) σ) at.reached.stamps at.reached.words ∙ carried
+        ap₂ (λ (l : ℕ) (w : List ℕ). seen_with l (near_sets_by_word p (carried x) w) σ) at.reached.late at.ways
+        ∙ ap₂ (λ (s w : List ℕ). seen_with (late_set p v) (near_sets_by_word p (record { stamps = s; words = w }) (ways_of p v)) σ) at.reached.stamps at.reached.words ∙ by_word
 
     pub key_held : length (words_of (key_of p v (end_of p v))) ≤ n → n ≤ 18 → take n words ≡ word_key n p v (end_of p v)
     key_held = subst (λ (k : Key). length (words_of k) ≤ n → n ≤ 18 → take n words ≡ padded n (words_of k)) same_key
-        (seen_held code lengths masks own σ at.reached.holds lives stands_short x.late first second n near values words ef es ev ew)
+        (seen_held code lengths masks own σ at.reached.holds lives stands_short x.place.late first second n near values words ef es ev ew)

@@ -1,21 +1,21 @@
 -- Who is near whom, test by test as the code asks.
 use Prim.Native.Nat.{ℕ, ◌/◌, ◌%◌, ◌^◌, ◌+◌, ◌<◌, ◌≤◌}
-use mathlib.Core.Path.{◌≡◌, refl, sym, ap, subst, ◌∙◌}
-use mathlib.Core.Bool.{Bool, true, false, not, ◌&&◌}
+use mathlib.Core.Path.{◌≡◌, refl, sym, ap, ◌∙◌}
+use mathlib.Core.Bool.{Bool, true, false, cond, not, ◌&&◌}
 use mathlib.Core.List.{List}
 use native.Mathlib.Omega.{arith}
 use lib.Dec.{eqb, ltb}
 use lib.ListN.{get_or}
-use borrow.Author.Tests.{eq-eqb, ne_eqb, lt-ltb, le-ltb}
+use borrow.Author.Tests.{eq-eqb, ne_eqb}
 use Rattle.spec_file.specs.Program.{Program}
 use Rattle.spec_model.specs.Exchange.{together}
-use Rattle.search_place.specs.ClassGroups.{groups_of, Lined}
+use Rattle.search_place.specs.ClassGroups.{Lined}
 use Rattle.search_place.proofs.ClassGroups.{together_class, not_together, together_known, alone_known}
 use Rattle.theory_sc.specs.ReadWords.{Words}
 use Rattle.theory_sc.specs.Sets.{set_of}
 use Rattle.theory_sc.proofs.Sets.{set_none}
 use Rattle.theory_sc_key.specs.Ways.{comes_back, near_by_word}
-use Rattle.theory_sc_key.proofs.Ways.{comes_back_at, comes_back_on}
+use Rattle.theory_sc_key.proofs.Ways.{comes_back_on}
 
 -- ---- a word that comes back, read by read
 module _ (stamps : List ℕ) (x y way s : ℕ) (stamp : s ≡ get_or stamps (way % 8) 0) where
@@ -74,3 +74,8 @@ module _ (class : List ℕ) (groups : ℕ) (p : Program) (lines : Lined class gr
 -- one of no class is near none
 pub set_unlined : (class : List ℕ) (groups : ℕ) (p : Program) → Lined class groups p → (m : Words) (ways : List ℕ) (t : ℕ) → get_or class t 0 ≡ 0 → 0 ≡ set_of (near_by_word p m ways t) 6
 set_unlined class groups p lines m ways t e = sym (set_none (near_by_word p m ways t) 6 (λ u h. near_unlined class groups p lines m ways t u e))
+
+-- a number that is chosen, or none
+pub within : (b : Bool) (k r : ℕ) → r ≡ cond b k 0 → r ≤ k
+within true k r e = omega (arith, e)
+within false k r e = omega (arith, e)

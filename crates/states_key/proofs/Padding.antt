@@ -5,8 +5,10 @@ use mathlib.Core.Bool.{Bool, true, false, cond}
 use mathlib.Core.List.{List, [], ◌∷◌, ◌++◌, append_assoc, append-nil, map}
 use native.Mathlib.Omega.{arith}
 use native.Mathlib.Numerals.{add-one}
-use lib.ListN.{length, get_or, set, take, replicate, length-append, length-replicate}
-use lib.Seq.{set_at, take-suc, take_all}
+use lib.ListN.{length, get_or, set, take, drop, replicate, length-append}
+use lib.Seq.{paste, set_at, take-suc, take_all, take_at, drop-append-add}
+use Rattle.std.proofs.lemmas.List.{drop-replicate}
+use Rattle.std.proofs.lemmas.List.Edits.{paste_all}
 use Rattle.spec_schedules.specs.Lists.{range, filter}
 use Rattle.spec_schedules.specs.Sets.{has}
 use Rattle.theory_sc.specs.Sets.{addend}
@@ -86,14 +88,17 @@ take_size zero l h = refl
 take_size (suc i) [] h = absurd (omega arith)
 take_size (suc i) (x ∷ l) h = ap suc (take_size i l (omega arith))
 
--- ---- a stretch of numbers, one after the other
-pub stretch_more : (values l from : List ℕ) (n i : ℕ) → values ≡ padded 32 (l ++ take i from) → length l ≡ n → length from ≡ 8 → n + 8 ≤ 32 → i < 8
-    → set values (n + i) (get_or from i 0) ≡ padded 32 (l ++ take (i + 1) from)
-stretch_more values l from n i held size eight room h =
-    let cut : length (take i from) ≡ i = take_size i from (omega (arith, eight)) in
-    let many : length (l ++ take i from) ≡ n + i = length-append l (take i from) ∙ omega (arith, size, cut) in
-    ap (λ (z : List ℕ). set z (n + i) (get_or from i 0)) held ∙ padded_put 32 (l ++ take i from) (n + i) (get_or from i 0) many (omega arith)
-    ∙ ap (padded 32) (append_assoc l (take i from) (get_or from i 0 ∷ []) ∙ ap (λ (z : List ℕ). l ++ z) (sym (ap (λ (k : ℕ). take k from) (add-one i) ∙ take-suc from i 0 (omega (arith, eight)))))
+-- ---- a stretch of numbers, stored over zeros
+pub stretch_put : (l from : List ℕ) (n : ℕ) → length l ≡ n → length from ≡ 8 → n + 8 ≤ 32 → paste (padded 32 l) n from 8 ≡ padded 32 (l ++ from)
+unfolding padded
+stretch_put l from n size eight room =
+    let zeros : List ℕ = replicate (32 - length l) 0 in
+    let behind : drop (length l + 8) (l ++ zeros) ≡ replicate (32 - length l - 8) 0 = drop-append-add l zeros 8 ∙ drop-replicate 8 (32 - length l) 0 in
+    let same : length l + 8 ≡ n + 8 = omega arith in
+    let less : 32 - length l - 8 ≡ 32 - length (l ++ from) = omega (arith, length-append l from) in
+    paste_all (l ++ zeros) n from 8 (sym eight)
+    ∙ ap₂ (λ (a b : List ℕ). a ++ (from ++ b)) (take_at l zeros n size) (ap (λ (k : ℕ). drop k (l ++ zeros)) (sym same) ∙ behind ∙ ap (λ (k : ℕ). replicate k 0) less)
+    ∙ sym (append_assoc l from (replicate (32 - length (l ++ from)) 0))
 
 -- ---- by two
 pub pairs_at : (l : List ℕ) (i : ℕ) → i * 2 + 1 < length l → get_or (pairs l) i 0 ≡ get_or l (i * 2) 0 + 2 ^ 32 * get_or l (i * 2 + 1) 0

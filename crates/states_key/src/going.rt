@@ -14,21 +14,9 @@ pub fn first_spot(x: Place) -> Spot
     ensures { (code lengths class : List ℕ) (threads groups : ℕ) (p : Program) → Reached code lengths class threads groups x p []
         → Stands code lengths class threads groups result p [] }
 {
-    let threads = x.threads;
-    let memory = x.memory;
-    let words = x.words;
-    let schedule = x.schedule;
-    let stamps = x.stamps;
     Spot {
-        threads: threads,
-        memory: memory,
-        words: words,
-        ways: [0u64; 6],
-        schedule: schedule,
-        stamps: stamps,
-        steps: x.steps,
-        late: x.late,
-        live: x.live,
+        place: x,
+        ways: [0; 6],
     }
 }
 
@@ -36,7 +24,7 @@ pub fn first_spot(x: Place) -> Spot
 pub(crate) fn way_behind(way: u64, location: u8) -> u64
     ensures { result ≡ way_behind way location }
 {
-    (way % 0x2_0000_0000 * 8 + (location as u64)) % 0x10_0000_0000
+    (way % 0x2_0000_0000 * 8 + u64::from(location)) % 0x10_0000_0000
 }
 
 // Stores the way of thread t behind a step of its to a location.
@@ -45,6 +33,5 @@ pub fn mark_way(ways: &mut [u64; 6], t: u8, location: u8)
     ensures { ways.new ≡ set ways.old t (way_behind (get_or ways.old t 0) location) }
 {
     let u = wide(t);
-    let way = ways[u];
-    ways[u] = way_behind(way, location);
+    ways[u] = way_behind(ways[u], location);
 }

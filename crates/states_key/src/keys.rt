@@ -20,10 +20,7 @@ pub fn left(at: usize, n: usize) -> u64
     requires { at < n → n ≤ 16 }
     ensures { (result ≡ n - at) × (result ≤ 16) }
 {
-    if at < n {
-        return (n - at) as u64;
-    }
-    0
+    n.saturating_sub(at) as u64
 }
 
 // The first word: its highest bit, and six bits each for the late set and what is left of each thread.
@@ -32,20 +29,17 @@ pub(crate) fn first_word(lengths: &[usize; 6], threads: [ThreadState; 6], late: 
     ensures { result ≡ 2 ^ 63 + digits 64 (λ n. n) (late ∷ left_at lengths.now threads) }
 {
     let mut word = 0u64;
-    let mut t = 6;
-    while 0 < t {
-        t -= 1;
-        let k = threads[t];
-        word = word * 64 + left(k.at, lengths[t]);
+    for t in (0..6).rev() {
+        word = word * 64 + left(threads[t].at, lengths[t]);
     }
-    0x8000_0000_0000_0000 + (word * 64 + (late as u64))
+    0x8000_0000_0000_0000 + (word * 64 + late as u64)
 }
 
 // Two values as one word.
 pub fn pair(a: u32, b: u32) -> u64
     ensures { result ≡ a + 2 ^ 32 * b }
 {
-    (a as u64) + 0x1_0000_0000 * (b as u64)
+    u64::from(a) + 0x1_0000_0000 * u64::from(b)
 }
 
 // Two words, and the values by two.
@@ -55,27 +49,25 @@ pub(crate) fn packed(first: u64, second: u64, values: [u32; 32]) -> [u64; 18]
     let mut words = [0u64; 18];
     words[0] = first;
     words[1] = second;
-    let mut i = 0;
-    while i < 16 {
+    for i in 0..16 {
         words[i + 2] = pair(values[i * 2], values[i * 2 + 1]);
-        i += 1;
     }
     words
 }
 
 // The key of the position that this spot is: its first so many words, whatever number of words it fits.
-pub fn key(lengths: &[usize; 6], class: &[usize; 6], masks: &[u8; 96], x: Spot) -> [u64; 18]
+pub fn key(lengths: &[usize; 6], class: &[usize; 6], masks: &[u8; 96], x: &Spot) -> [u64; 18]
     requires { (code : List ℕ) × (threads : ℕ) × (groups : ℕ) × (p : Program) × (v : Schedule)
-        × Stands code lengths.now class.now threads groups x p v }
+        × Stands code lengths.now class.now threads groups x.now p v }
     ensures { (code : List ℕ) (threads groups n : ℕ) (p : Program) (v : Schedule)
-        → Stands code lengths.now class.now threads groups x p v → Live code lengths.now masks.now
+        → Stands code lengths.now class.now threads groups x.now p v → Live code lengths.now masks.now
         → length (words_of (key_of p v (end_of p v))) ≤ n → n ≤ 18 → take n result ≡ word_key n p v (end_of p v) }
 {
-    let first = first_word(lengths, x.threads, x.late);
-    let second = near_word(class, &x.stamps, &x.words, &x.ways);
+    let first = first_word(lengths, x.place.threads, x.place.late);
+    let second = near_word(class, x);
     packed(
         first,
         second,
-        values_of(lengths, masks, x.threads, x.memory),
+        values_of(lengths, masks, x.place.threads, x.place.memory),
     )
 }

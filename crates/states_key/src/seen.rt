@@ -16,9 +16,6 @@ pub fn seen_key(lengths: &[usize; 6], masks: &[u8; 96], front: u8, m: Machine) -
         → Live code lengths.now masks.now → length (words_of (seen_with front [] σ)) ≤ n → n ≤ 18
         → take n result ≡ padded n (words_of (seen_with front [] σ)) }
 {
-    let threads = m.threads;
-    let memory = m.memory;
-    let first = first_word(lengths, threads, front);
-    let values = values_of(lengths, masks, threads, memory);
-    packed(first, 0, values)
+    let first = first_word(lengths, m.threads, front);
+    packed(first, 0, values_of(lengths, masks, m.threads, m.memory))
 }

@@ -5,18 +5,9 @@ ghost use Rattle.theory_sc.specs.Sets.{addend};
 ghost use Rattle.theory_sc_key.specs.Key.{padded};
 ghost use Rattle.states_key.specs.Gathered.{chosen, gathered};
 
+use file_lines::choose;
 use machine_access::ThreadState;
 use search_place::is_in;
-
-// The value, or 0.
-fn value_if(b: bool, v: u32) -> u32
-    ensures { result ≡ cond b v 0 }
-{
-    if b {
-        return v;
-    }
-    0
-}
 
 // Stores a value at n where it is wanted, else 0; gives back where the next one goes.
 fn put(values: &mut [u32; 32], n: usize, b: bool, v: u32) -> usize
@@ -24,11 +15,8 @@ fn put(values: &mut [u32; 32], n: usize, b: bool, v: u32) -> usize
     ensures next { (result ≡ n + addend b 1) × (result ≤ n + 1) }
     ensures stored { values.new ≡ set values.old n (cond b v 0) }
 {
-    values[n] = value_if(b, v);
-    if b {
-        return n + 1;
-    }
-    n
+    values[n] = choose(b, v, 0);
+    n + usize::from(b)
 }
 
 // Stores the registers in the set from n on; gives back where the next value goes.
@@ -50,11 +38,7 @@ fn put_memory(values: &mut [u32; 32], n: usize, memory: [u32; 8])
     ensures { (l : List ℕ) → length l ≡ n → values.old ≡ padded 32 l
         → values.new ≡ padded 32 (l ++ memory) }
 {
-    let mut i = 0;
-    while i < 8 {
-        values[n + i] = memory[i];
-        i += 1;
-    }
+    values[n..n + 8].copy_from_slice(&memory);
 }
 
 // All of them, with zeros behind.
@@ -69,15 +53,10 @@ pub fn values_of(
 {
     let mut values = [0u32; 32];
     let mut n = 0;
-    let mut t = 0;
-    while t < 6 {
-        let u = t;
-        t += 1;
-        let k = threads[u];
-        let at = k.at;
-        if at < lengths[u] {
-            let registers = k.registers;
-            n = put_chosen(&mut values, n, masks[u * 16 + at], registers);
+    for t in 0..6 {
+        let k = threads[t];
+        if k.at < lengths[t] {
+            n = put_chosen(&mut values, n, masks[t * 16 + k.at], k.registers);
         }
     }
     put_memory(&mut values, n, memory);

@@ -5,6 +5,7 @@ use mathlib.Core.Bool.{Bool, true, false, false≢true}
 use mathlib.Core.List.{List, [], ◌∷◌, ◌++◌}
 use native.Mathlib.Omega.{arith}
 use native.Mathlib.Decide.{ℕ_discrete, dec_lt}
+use Rattle.std.specs.List.{count_by, range_with_len}
 use lib.ListN.{length, get_or, drop, length-append, drop_of_length-le, get_or-eq_default}
 use lib.Seq.{drop_at}
 use Rattle.spec_file.specs.Program.{Program, code_of}
@@ -27,7 +28,7 @@ use Rattle.theory_sc_key.specs.Key.{live_at, key_of, words_of}
 use Rattle.theory_sc_key.proofs.Decides.{words_many}
 use Rattle.theory_states.specs.Positions.{Reached}
 use Rattle.states_live.specs.Live.{Live, Stands}
-use Rattle.states_live.proofs.LiveRows.{live_end}
+use Rattle.states_live.proofs.LiveRows.{live_end, addend_cond}
 
 -- ---- members of a stretch of numbers that pass a test
 one_more : (f : ℕ → Bool) (x : ℕ) (l : List ℕ) → length (filter f (x ∷ l)) ≡ addend (f x) 1 + length (filter f l)
@@ -38,10 +39,21 @@ one_more f x l = go (f x) refl
     go true e = rw (e, filter, addend) (omega arith)
     go false e = rw (e, filter, addend) (omega arith)
 
-pub four_members : (f : ℕ → Bool) (a0 a1 a2 a3 : ℕ) → a0 ≡ addend (f 0) 1 → a1 ≡ addend (f 1) 1 → a2 ≡ addend (f 2) 1 → a3 ≡ addend (f 3) 1 → a0 + a1 + a2 + a3 ≡ length (filter f (range 0 4))
+-- the four registers, counted by the library
+pub four_counted : (f : ℕ → Bool) → count_by f (range_with_len 0 4) ≡ length (filter f (range 0 4))
 unfolding range filter
-four_members f a0 a1 a2 a3 e0 e1 e2 e3 =
-    omega (arith, one_more f 0 (1 ∷ 2 ∷ 3 ∷ []), one_more f 1 (2 ∷ 3 ∷ []), one_more f 2 (3 ∷ []), one_more f 3 [])
+four_counted f =
+    omega (
+      arith,
+      one_more f 0 (1 ∷ 2 ∷ 3 ∷ []),
+      one_more f 1 (2 ∷ 3 ∷ []),
+      one_more f 2 (3 ∷ []),
+      one_more f 3 [],
+      addend_cond (f 0) 1,
+      addend_cond (f 1) 1,
+      addend_cond (f 2) 1,
+      addend_cond (f 3) 1,
+    )
 
 addend_below : (a b : Bool) → (a ≡ true → b ≡ true) → addend a 1 ≤ addend b 1
 unfolding addend

@@ -1,7 +1,7 @@
 -- Live registers, row by row from the last one on.
 use Prim.Native.Nat.{ℕ, zero, suc, ◌+◌, ◌-◌, ◌*◌, ◌/◌, ◌%◌, ◌<◌, ◌≤◌}
 use mathlib.Core.Path.{◌≡◌, refl, sym, ap, ap₂, subst, ◌∙◌}
-use mathlib.Core.Bool.{Bool, false, not, ◌&&◌, ◌||◌}
+use mathlib.Core.Bool.{Bool, true, false, cond, not, ◌&&◌, ◌||◌}
 use mathlib.Core.List.{List, [], ◌∷◌}
 use native.Mathlib.Omega.{arith}
 use native.Mathlib.Decide.{ℕ_discrete, dec_lt}
@@ -37,7 +37,12 @@ live_bit x is next far r b h en ef e =
     (ap (λ (s : ℕ). has s r) en ∙ set_has (live 0 is) 4 r h) (ap (λ (s : ℕ). has s r) ef ∙ set_has (live (most_skipped x) is) 4 r h)
 
 -- four bits as one number
-pub four_bits : (f : ℕ → Bool) (b0 b1 b2 b3 : Bool) (a0 a1 a2 a3 : ℕ) → a0 ≡ addend b0 1 → a1 ≡ addend b1 2 → a2 ≡ addend b2 4 → a3 ≡ addend b3 8
+pub addend_cond : (b : Bool) (k : ℕ) → addend b k ≡ cond b k 0
+unfolding addend
+addend_cond true k = refl
+addend_cond false k = refl
+
+pub four_bits : (f : ℕ → Bool) (b0 b1 b2 b3 : Bool) (a0 a1 a2 a3 : ℕ) → a0 ≡ cond b0 1 0 → a1 ≡ cond b1 2 0 → a2 ≡ cond b2 4 0 → a3 ≡ cond b3 8 0
     → b0 ≡ f 0 → b1 ≡ f 1 → b2 ≡ f 2 → b3 ≡ f 3 → a0 + a1 + a2 + a3 ≡ set_of f 4
 four_bits f b0 b1 b2 b3 a0 a1 a2 a3 p0 p1 p2 p3 e0 e1 e2 e3 =
     let s0 : set_of f 0 ≡ 0 = set_none f 0 (λ t h. absurd (omega arith)) in
@@ -45,7 +50,7 @@ four_bits f b0 b1 b2 b3 a0 a1 a2 a3 p0 p1 p2 p3 e0 e1 e2 e3 =
     let s2 : set_of f 2 ≡ set_of f 1 + addend b1 2 = set_more f 1 b1 (sym e1) in
     let s3 : set_of f 3 ≡ set_of f 2 + addend b2 4 = set_more f 2 b2 (sym e2) in
     let s4 : set_of f 4 ≡ set_of f 3 + addend b3 8 = set_more f 3 b3 (sym e3) in
-    omega arith
+    omega (arith, addend_cond b0 1, addend_cond b1 2, addend_cond b2 4, addend_cond b3 8)
 
 -- ---- the rows from k on hold their sets
 module _ (code lengths : List ℕ) where

@@ -9,8 +9,10 @@ ghost use Rattle.theory_sc_key.specs.Registers.{reads_register, writes_register,
 ghost use Rattle.states_live.specs.Live.{Live};
 
 use crate::naming::{reads_register, writes_register};
+use file_decoder::Compiled;
+use file_lines::choose;
 use file_rows::{Code, skip_at};
-use search_place::{addend, is_in};
+use search_place::is_in;
 
 // Whether register r is live before a row's instruction, where these sets are live behind it: without a skip, and with one.
 fn is_live(code: &Code, row: usize, r: u8, next: u8, far: u8) -> bool
@@ -18,16 +20,8 @@ fn is_live(code: &Code, row: usize, r: u8, next: u8, far: u8) -> bool
     ensures { result ≡ (reads_register (instruction_at code.now row) r
         || (not (writes_register (instruction_at code.now row) r) && (has next r || has far r))) }
 {
-    if reads_register(code, row, r) {
-        return true;
-    }
-    if writes_register(code, row, r) {
-        return false;
-    }
-    if is_in(next, r) {
-        return true;
-    }
-    is_in(far, r)
+    reads_register(code, row, r)
+        || !writes_register(code, row, r) && (is_in(next, r) || is_in(far, r))
 }
 
 // The four registers that are.
@@ -41,7 +35,7 @@ fn live_before(code: &Code, row: usize, next: u8, far: u8) -> u8
     let b1 = is_live(code, row, 1, next, far);
     let b2 = is_live(code, row, 2, next, far);
     let b3 = is_live(code, row, 3, next, far);
-    addend(b0, 1) + addend(b1, 2) + addend(b2, 4) + addend(b3, 8)
+    choose(b0, 1, 0) + choose(b1, 2, 0) + choose(b2, 4, 0) + choose(b3, 8, 0)
 }
 
 // The set of the row d behind row k, where n rows from k on have instructions of the thread; else the empty set.
@@ -49,28 +43,21 @@ fn mask_at(masks: &[u8; 96], k: usize, d: usize, n: usize) -> u8
     requires { d < n → k + d < 96 }
     ensures { (d < n → result ≡ get_or masks.now (k + d) 0) × (n ≤ d → result ≡ 0) }
 {
-    if d < n {
-        return masks[k + d];
-    }
-    0
+    if d < n { masks[k + d] } else { 0 }
 }
 
 // For each row of a thread's code the set of registers that are live before its instruction.
-pub fn live_masks(code: &Code, lengths: &[usize; 6]) -> [u8; 96]
-    ensures { Live code.now lengths.now result }
+pub fn live_masks(program: &Compiled) -> [u8; 96]
+    ensures { Live program.now.code program.now.lengths result }
 {
     let mut masks = [0u8; 96];
-    let mut row = 96;
-    while 0 < row {
-        row -= 1;
+    for row in (0..96).rev() {
         let i = row % 16;
-        let n = lengths[row / 16];
-        if i < n {
-            if n <= 16 {
-                let next = mask_at(&masks, row + 1, 0, n - i - 1);
-                let far = mask_at(&masks, row + 1, skip_at(code, row), n - i - 1);
-                masks[row] = live_before(code, row, next, far);
-            }
+        let n = program.lengths[row / 16];
+        if i < n && n <= 16 {
+            let next = mask_at(&masks, row + 1, 0, n - i - 1);
+            let far = mask_at(&masks, row + 1, skip_at(&program.code, row), n - i - 1);
+            masks[row] = live_before(&program.code, row, next, far);
         }
     }
     masks

@@ -1,5 +1,6 @@
 // How many words the keys of a program have: two for threads and nearness, and the values by two, which are memory's eight and those of live registers.
-ghost use Rattle.std.specs.Prelude.{◌≡◌, List, ℕ, ◌+◌, ◌*◌, ◌<◌, ◌≤◌, length, get_or};
+ghost use Rattle.std.specs.Prelude.{◌≡◌, List, ℕ, ◌+◌, ◌*◌, ◌<◌, ◌≤◌, length, get_or, count_by};
+ghost use Rattle.std.specs.List.{range_with_len};
 ghost use Rattle.spec_file.specs.Program.{Program};
 ghost use Rattle.spec_schedules.specs.Lists.{range, filter};
 ghost use Rattle.spec_schedules.specs.Sets.{has};
@@ -8,25 +9,13 @@ ghost use Rattle.spec_sc.specs.State.{State};
 ghost use Rattle.theory_sc_key.specs.Key.{live_at, Wide};
 ghost use Rattle.states_live.specs.Live.{Live, Stands};
 
-use file_lines::wide;
-use search_place::{addend, is_in};
+use search_place::is_in;
 
 // How many of the four registers are in the set.
 fn members(set: u8) -> usize
-    ensures { (result ≡ length (filter (has set) (range 0 4))) × (result ≤ 4) }
+    ensures { result ≡ count_by (has set) (range_with_len 0 4) }
 {
-    let two = wide(addend(is_in(set, 0), 1)) + wide(addend(is_in(set, 1), 1));
-    two + wide(addend(is_in(set, 2), 1)) + wide(addend(is_in(set, 3), 1))
-}
-
-// The larger of two.
-fn larger(a: usize, b: usize) -> usize
-    ensures { (a ≤ result) × (b ≤ result) × ((k : ℕ) → a ≤ k → b ≤ k → result ≤ k) }
-{
-    if a < b {
-        return b;
-    }
-    a
+    (0..4u8).filter(|r| is_in(set, *r)).count()
 }
 
 // The most that are in the set of one of thread t's rows.
@@ -35,10 +24,8 @@ fn most_live(masks: &[u8; 96], t: usize) -> usize
     ensures { (result ≤ 4) × ((i : ℕ) → i < 16 → length (filter (has (get_or masks.now (t * 16 + i) 0)) (range 0 4)) ≤ result) }
 {
     let mut most = 0;
-    let mut i = 0;
-    while i < 16 {
-        most = larger(most, members(masks[t * 16 + i]));
-        i += 1;
+    for i in 0..16 {
+        most = most.max(members(masks[t * 16 + i]));
     }
     most
 }
@@ -49,10 +36,8 @@ pub fn most_registers(masks: &[u8; 96]) -> usize
         → Live code lengths masks.now → (σ : State) → Stands p σ → length (filter (live_at σ) (range 0 24)) ≤ result) }
 {
     let mut sum = 0;
-    let mut t = 0;
-    while t < 6 {
+    for t in 0..6 {
         sum += most_live(masks, t);
-        t += 1;
     }
     sum
 }

@@ -9,51 +9,30 @@ use file_rows::{Code, kind_of, operand_at};
 use spec_file::Operand;
 
 // Whether the operand is register r.
+#[tactic(auto, unfolding(theory_sc_key::specs::Registers::in_operand))]
 fn is_register(p: Operand, r: u8) -> bool
     ensures { result ≡ in_operand p r }
 {
     match p {
         Operand::Constant(_) => false,
-        Operand::Register(k) => k == (r as u32),
+        Operand::Register(k) => k == u32::from(r),
     }
 }
 
 // Whether an instruction with this first byte reads the register that it names: stores, loads, swaps and assignments do not.
+#[tactic(auto, unfolding(crate::specs::Live::reads_own))]
 fn reads_own(b: u8) -> bool
     ensures { result ≡ reads_own b }
 {
-    if b == 0x10 {
-        return false;
-    }
-    if b == 0x11 {
-        return false;
-    }
-    if b == 0x12 {
-        return false;
-    }
-    if b == 0x13 {
-        return false;
-    }
-    b != 0x20
+    !matches!(b, 0x10 | 0x11 | 0x12 | 0x13 | 0x20)
 }
 
 // Whether it writes it: what reads memory does, and what assigns.
+#[tactic(auto, unfolding(crate::specs::Live::writes_own))]
 fn writes_own(b: u8) -> bool
     ensures { result ≡ writes_own b }
 {
-    if b == 0x11 {
-        return true;
-    }
-    if b == 0x12 {
-        return true;
-    }
-    if b == 0x13 {
-        return true;
-    }
-    if b == 0x20 {
-        return true;
-    }
-    b == 0x21
+    matches!(b, 0x11 | 0x12 | 0x13 | 0x20 | 0x21)
 }
 
 // Whether the instruction in a row reads register r.
@@ -73,11 +52,7 @@ pub(crate) fn reads_register(code: &Code, row: usize, r: u8) -> bool
     if b == 0x13 {
         return is_register(operand_at(code, row, k.second), r);
     }
-    if !reads_own(b) {
-        return false;
-    }
-    let i = k.register;
-    code[at + i] == r
+    reads_own(b) && code[at + k.register] == r
 }
 
 // Whether it writes register r.
@@ -87,10 +62,5 @@ pub(crate) fn writes_register(code: &Code, row: usize, r: u8) -> bool
 {
     let at = row * 16;
     let b = code[at];
-    if !writes_own(b) {
-        return false;
-    }
-    let k = kind_of(wide(b));
-    let i = k.register;
-    code[at + i] == r
+    writes_own(b) && code[at + kind_of(wide(b)).register] == r
 }

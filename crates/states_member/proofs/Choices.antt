@@ -33,7 +33,7 @@ use Rattle.theory_states.specs.Wrapped.{Wrapped}
 use Rattle.theory_states.specs.Kth.{kth}
 use Rattle.theory_states.proofs.Numbers.{by_cut}
 use Rattle.theory_states.proofs.Kth.{kth_here, kth_later}
-use Rattle.states_key.specs.Stands.{place_of, Stands}
+use Rattle.states_key.specs.Stands.{Stands}
 use Rattle.states_key.specs.declared.spot.Spot.{Spot}
 use Rattle.states_walk.specs.Known.{Numbered, numbers_by}
 use Rattle.states_walk.proofs.Numbered.{Cases}
@@ -88,7 +88,7 @@ module _ (p : Program) (v : Schedule) (steps : ℕ) where
 abbrev pub Seeks : (code lengths class : List ℕ) (n slots : ℕ) (x : Spot) (table₀ : List ℕ) (i₀ : ℕ) (table : List ℕ) (i t : ℕ) → Type 0
 Seeks code lengths class n slots x table₀ i₀ table i t =
     (c : Cases code lengths class x) → ended SC (end_of c.2 c.3) ≡ false → Wide n c.2 → Numbered c.2 n slots table₀
-    → (kth i₀ (found_behind false c.2 x.steps none c.3) ≡ kth i (concat_range (λ d. found_with false c.2 x.steps none c.3 d) (6 - t) t)) × Numbered c.2 n slots table
+    → (kth i₀ (found_behind false c.2 x.place.steps none c.3) ≡ kth i (concat_range (λ d. found_with false c.2 x.place.steps none c.3 d) (6 - t) t)) × Numbered c.2 n slots table
 
 module _ (code lengths class : List ℕ) (n slots : ℕ) (x : Spot) (table₀ : List ℕ) (i₀ : ℕ) where
   abbrev Still : (table : List ℕ) (i t : ℕ) → Type 0
@@ -104,17 +104,17 @@ module _ (code lengths class : List ℕ) (n slots : ℕ) (x : Spot) (table₀ : 
 
   pub seeks_start : Still table₀ i₀ 0
   seeks_start c going wide right =
-      (kth_start c.2 c.3 x.steps going (reached_open code lengths class c.0 c.1 (place_of x) c.2 c.3 c.4.reached going) i₀, right)
+      (kth_start c.2 c.3 x.place.steps going (reached_open code lengths class c.0 c.1 x.place c.2 c.3 c.4.reached going) i₀, right)
 
   -- t leads to the member
   pub seeks_found : (table table' : List ℕ) (i l f t : ℕ) → t < 6 → Still table i t → Tried true t → Visited table table' l f t → i < l
       → (c : Cases code lengths class x) → ended SC (end_of c.2 c.3) ≡ false → Wide n c.2 → Numbered c.2 n slots table₀
-      → (kth i₀ (found_behind false c.2 x.steps none c.3) ≡ kth i (found_behind false c.2 (x.steps + 1) none (c.3 ++ (t ∷ [])))) × Numbered c.2 n slots table'
+      → (kth i₀ (found_behind false c.2 x.place.steps none c.3) ≡ kth i (found_behind false c.2 (x.place.steps + 1) none (c.3 ++ (t ∷ [])))) × Numbered c.2 n slots table'
   seeks_found table table' i l f t h still is visited less c going wide right =
       let at = c.4.reached in
       let before = still c going wide right in
       let q = visited c.0 c.1 c.2 c.3 c.4 wide before.1 in (
-        before.0 ∙ kth_found c.2 c.3 x.steps at.loaded.well_formed at.allowed at.counted t i l f h (is c.0 c.1 c.2 c.3 c.4) q.0 less,
+        before.0 ∙ kth_found c.2 c.3 x.place.steps at.loaded.well_formed at.allowed at.counted t i l f h (is c.0 c.1 c.2 c.3 c.4) q.0 less,
         q.1,
       )
 
@@ -124,8 +124,8 @@ module _ (code lengths class : List ℕ) (n slots : ℕ) (x : Spot) (table₀ : 
       let at = c.4.reached in
       let before = still c going wide right in
       let q = visited c.0 c.1 c.2 c.3 c.4 wide before.1 in (
-        before.0 ∙ kth_passed c.2 c.3 x.steps at.loaded.well_formed at.allowed at.counted t i l f h q.0 most
-            ∙ ap (λ (j : ℕ). kth j (concat_range (λ d. found_with false c.2 x.steps none c.3 d) (6 - (t + 1)) (t + 1))) (sym ei),
+        before.0 ∙ kth_passed c.2 c.3 x.place.steps at.loaded.well_formed at.allowed at.counted t i l f h q.0 most
+            ∙ ap (λ (j : ℕ). kth j (concat_range (λ d. found_with false c.2 x.place.steps none c.3 d) (6 - (t + 1)) (t + 1))) (sym ei),
         subst (Numbered c.2 n slots) (sym eb) q.1,
       )
 
@@ -133,15 +133,15 @@ module _ (code lengths class : List ℕ) (n slots : ℕ) (x : Spot) (table₀ : 
   pub seeks_skipped : (table behind : List ℕ) (i i' t : ℕ) → t < 6 → Still table i t → Tried false t → behind ≡ table → i' ≡ i → Still behind i' (t + 1)
   seeks_skipped table behind i i' t h still not-tried eb ei c going wide right =
       let before = still c going wide right in (
-        before.0 ∙ kth_untried c.2 c.3 x.steps t i h (not-tried c.0 c.1 c.2 c.3 c.4)
-            ∙ ap (λ (j : ℕ). kth j (concat_range (λ d. found_with false c.2 x.steps none c.3 d) (6 - (t + 1)) (t + 1))) (sym ei),
+        before.0 ∙ kth_untried c.2 c.3 x.place.steps t i h (not-tried c.0 c.1 c.2 c.3 c.4)
+            ∙ ap (λ (j : ℕ). kth j (concat_range (λ d. found_with false c.2 x.place.steps none c.3 d) (6 - (t + 1)) (t + 1))) (sym ei),
         subst (Numbered c.2 n slots) (sym eb) before.1,
       )
 
   -- no step is left
   pub seeks_over : (table : List ℕ) (i t : ℕ) → 6 ≤ t → Still table i t
       → (c : Cases code lengths class x) → ended SC (end_of c.2 c.3) ≡ false → Wide n c.2 → Numbered c.2 n slots table₀
-      → (kth i₀ (found_behind false c.2 x.steps none c.3) ≡ none) × Numbered c.2 n slots table
+      → (kth i₀ (found_behind false c.2 x.place.steps none c.3) ≡ none) × Numbered c.2 n slots table
   seeks_over table i t h still c going wide right =
       let before = still c going wide right in
-      (before.0 ∙ kth_over c.2 c.3 x.steps t i h, before.1)
+      (before.0 ∙ kth_over c.2 c.3 x.place.steps t i h, before.1)

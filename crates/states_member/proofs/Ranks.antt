@@ -10,7 +10,7 @@ use lib.Seq.{drop-cons}
 use Rattle.spec_file.specs.Program.{Program}
 use Rattle.spec_file.specs.WellFormed.{WellFormed}
 use Rattle.spec_schedules.specs.Order.{Schedule}
-use Rattle.spec_schedules.specs.System.{Allowed, FullFrom, ended}
+use Rattle.spec_schedules.specs.System.{Allowed, FullFrom}
 use Rattle.spec_schedules.proofs.Runs.{run_snoc, not_ended, full_length}
 use Rattle.spec_sc.specs.State.{State, SC, enabled, start}
 use Rattle.spec_sc.specs.Graph.{end_of}
@@ -31,7 +31,7 @@ use Rattle.theory_states.proofs.Numbers.{sum_same}
 use Rattle.theory_states.proofs.Passing.{size_left}
 use Rattle.theory_states.proofs.Wrapped.{add_on, last_on}
 use Rattle.theory_states.proofs.Ranked.{rank_end, rank_turn, rank_live, rank_cut}
-use Rattle.states_key.specs.Stands.{place_of, Stands}
+use Rattle.states_key.specs.Stands.{Stands}
 use Rattle.states_key.specs.declared.spot.Spot.{Spot}
 use Rattle.states_walk.specs.Known.{Numbered, numbers_by}
 use Rattle.states_walk.proofs.Numbered.{Cases}
@@ -84,7 +84,7 @@ Along code lengths class n slots x₀ table₀ s x table l i =
     (c : Cases code lengths class x₀) → FullFrom SC (end_of c.2 c.3) s
     → (w : Schedule) × Stands code lengths class c.0 c.1 x c.2 w × FullFrom SC (end_of c.2 w) (drop i s)
     × (Wide n c.2 → Numbered c.2 n slots table₀
-    → ((l + rank (w ++ drop i s) (found_behind false c.2 x.steps none w)) % 2 ^ 64 ≡ rank (c.3 ++ s) (found_behind false c.2 x₀.steps none c.3) % 2 ^ 64)
+    → ((l + rank (w ++ drop i s) (found_behind false c.2 x.place.steps none w)) % 2 ^ 64 ≡ rank (c.3 ++ s) (found_behind false c.2 x₀.place.steps none c.3) % 2 ^ 64)
     × Numbered c.2 n slots table)
 
 module _ (code lengths class : List ℕ) (n slots : ℕ) (x₀ : Spot) (table₀ : List ℕ) (s : Schedule) where
@@ -93,7 +93,7 @@ module _ (code lengths class : List ℕ) (n slots : ℕ) (x₀ : Spot) (table₀
 
   -- all that are smaller
   abbrev All : Cases code lengths class x₀ → ℕ
-  All c = rank (c.3 ++ s) (found_behind false c.2 x₀.steps none c.3)
+  All c = rank (c.3 ++ s) (found_behind false c.2 x₀.place.steps none c.3)
 
   pub along_start : Still x₀ table₀ 0 0
   along_start c full = (c.3, c.4, full, λ wide right. (ap (λ (k : ℕ). k % 2 ^ 64) (let e : 0 + All c ≡ All c = omega arith in e), right))
@@ -126,9 +126,9 @@ module _ (code lengths class : List ℕ) (n slots : ℕ) (x₀ : Spot) (table₀
         let ok = (subst (FullFrom SC (end_of p w)) rest here.2).0 in
         let before = here.3 wide right in
         let q = added c.0 c.1 p w here.1 wide before.1 in
-        rank_given_up p at.loaded.well_formed w at.allowed x.steps at.counted (reached_open code lengths class c.0 c.1 (place_of x) p w at (not_ended SC lawful (end_of p w) (get_or s i 0) ok))
+        rank_given_up p at.loaded.well_formed w at.allowed x.place.steps at.counted (reached_open code lengths class c.0 c.1 x.place p w at (not_ended SC lawful (end_of p w) (get_or s i 0) ok))
         (get_or s i 0) (drop (i + 1) s) ok l d e l' q.0 more (All c)
-        (ap (λ (z : Schedule). (l + rank (w ++ z) (found_behind false p x.steps none w)) % 2 ^ 64) (sym rest) ∙ before.0)
+        (ap (λ (z : Schedule). (l + rank (w ++ z) (found_behind false p x.place.steps none w)) % 2 ^ 64) (sym rest) ∙ before.0)
         (sym (up c.0 c.1 p w here.1 ok)) few
 
     -- the search goes on behind its step
@@ -147,10 +147,10 @@ module _ (code lengths class : List ℕ) (n slots : ℕ) (x₀ : Spot) (table₀
           λ wide right.
               let before = here.3 wide right in
               let q = added c.0 c.1 p w here.1 wide before.1 in (
-                rank_goes_on p at.loaded.well_formed w at.allowed x.steps at.counted (reached_open code lengths class c.0 c.1 (place_of x) p w at (not_ended SC lawful (end_of p w) (get_or s i 0) f.0))
+                rank_goes_on p at.loaded.well_formed w at.allowed x.place.steps at.counted (reached_open code lengths class c.0 c.1 x.place p w at (not_ended SC lawful (end_of p w) (get_or s i 0) f.0))
                     (get_or s i 0) (drop (i + 1) s) f.0 l d e l' q.0 more (All c)
-                    (ap (λ (z : Schedule). (l + rank (w ++ z) (found_behind false p x.steps none w)) % 2 ^ 64) (sym rest) ∙ before.0)
-                    (sym (up c.0 c.1 p w here.1 f.0)) y.steps (one_more code lengths class c.0 c.1 x y p w (get_or s i 0) here.1 next),
+                    (ap (λ (z : Schedule). (l + rank (w ++ z) (found_behind false p x.place.steps none w)) % 2 ^ 64) (sym rest) ∙ before.0)
+                    (sym (up c.0 c.1 p w here.1 f.0)) y.place.steps (one_more code lengths class c.0 c.1 x.place y.place p w (get_or s i 0) here.1.reached next.reached),
                 q.1,
               ),
         )
@@ -163,5 +163,5 @@ module _ (code lengths class : List ℕ) (n slots : ℕ) (x₀ : Spot) (table₀
       let here = still c full in
       let w = here.0 in
       let e : drop i s ≡ [] = drop_of_length-le s {i = i} h in
-      last_on l (rank (w ++ drop i s) (found_behind false p x.steps none w)) (All c)
-      (ap (λ (z : Schedule). rank (w ++ z) (found_behind false p x.steps none w)) e ∙ rank_end SC 6 (given_up p) (looked_for sc false p) (24 - x.steps) w (end_of p w)) few (here.3 wide right).0
+      last_on l (rank (w ++ drop i s) (found_behind false p x.place.steps none w)) (All c)
+      (ap (λ (z : Schedule). rank (w ++ z) (found_behind false p x.place.steps none w)) e ∙ rank_end SC 6 (given_up p) (looked_for sc false p) (24 - x.place.steps) w (end_of p w)) few (here.3 wide right).0

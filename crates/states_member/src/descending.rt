@@ -10,48 +10,39 @@ ghost use Rattle.theory_states.specs.Kth.{kth};
 ghost use Rattle.states_live.specs.Live.{Live};
 ghost use Rattle.states_key.specs.Stands.{Stands};
 ghost use Rattle.states_walk.specs.Known.{Numbered};
-ghost use Rattle.states_walk.specs.FoundOf.{found_of};
+ghost use Rattle.listing_cursor.specs.Steps.{found_of, Short};
 
 use crate::choosing::chosen;
-use file_rows::Code;
+use listing_cursor::Steps;
+use spec_file::STEPS;
 use states_key::Spot;
 use states_memory::Shape;
-use states_walk::{First, advanced, nothing};
+use states_walk::{Setup, advance, steps_if};
 
+// The member number k of what is behind a prefix; None where there are not so many.
 pub(crate) fn kth_behind(
-    code: &Code,
-    lengths: &[usize; 6],
-    class: &[usize; 6],
-    left: &[u8; 192],
-    masks: &[u8; 96],
+    setup: &Setup,
     shape: Shape,
-    x: Spot,
+    x: &Spot,
     table: &mut [u64],
     k: u64,
-) -> First
+) -> Option<Steps<STEPS>>
     requires { ((threads : ℕ) × (groups : ℕ) × (p : Program) × (v : Schedule)
-        × Stands code.now lengths.now class.now threads groups x p v)
-        × Left code.now lengths.now left.now × Live code.now lengths.now masks.now × (shape.width ≤ 18) }
-    ensures words { (length table.new ≡ length table.old) × (result.steps ≤ 24) }
+        × Stands setup.now.program.code setup.now.program.lengths setup.now.program.class threads groups x.now p v)
+        × Left setup.now.program.code setup.now.program.lengths setup.now.left
+        × Live setup.now.program.code setup.now.program.lengths setup.now.masks × (shape.width ≤ 18) }
+    ensures words { (length table.new ≡ length table.old) × Short result }
     ensures member { (threads groups : ℕ) (p : Program) (v : Schedule)
-        → Stands code.now lengths.now class.now threads groups x p v → Wide shape.width p
-        → Numbered p shape.width shape.slots table.old → found_of result ≡ kth k (found_behind false p x.steps none v) }
+        → Stands setup.now.program.code setup.now.program.lengths setup.now.program.class threads groups x.now p v → Wide shape.width p
+        → Numbered p shape.width shape.slots table.old → found_of result ≡ kth k (found_behind false p x.now.place.steps none v) }
 {
-    let mut y = x;
+    let mut y = *x;
     let mut i = k;
-    while y.live != 0 {
-        let c = chosen(code, lengths, class, left, masks, shape, y, table, i);
-        if !c.found {
-            let r = nothing();
-            return r;
-        }
-        y = advanced(code, lengths, y, c.step);
+    // A step may leave out instructions: how many steps there are to the end is not known before.
+    while y.place.live != 0 {
+        let c = chosen(setup, shape, &y, table, i)?;
+        advance(&setup.program, &mut y, c.step);
         i = c.index;
     }
-    let schedule = y.schedule;
-    First {
-        found: i == 0,
-        steps: y.steps,
-        schedule: schedule,
-    }
+    steps_if(i == 0, y.place.schedule, y.place.steps)
 }

@@ -8,30 +8,26 @@ ghost use Rattle.spec_model.specs.Alike.{list_of};
 ghost use Rattle.spec_model.specs.Model.{Full};
 ghost use Rattle.spec_sc.specs.Sequential.{sc};
 ghost use Rattle.spec_members.specs.Rank.{smaller};
-ghost use Rattle.states_walk.specs.FoundOf.{found_of};
+ghost use Rattle.listing_cursor.specs.Steps.{found_of, Short};
 
 use crate::descending::kth_behind;
 use crate::ranking::rank_behind;
 use file_decoder::Compiled;
-use states_walk::{First, made, shape_of};
+use listing_cursor::Steps;
+use spec_file::STEPS;
+use states_walk::{made, shape_of};
 use table::clear;
 
 // The member number k, from 0.
-pub fn kth(program: Compiled, k: u64, table: &mut [u64]) -> First
+pub fn kth(program: Compiled, k: u64, table: &mut [u64]) -> Option<Steps<STEPS>>
     requires { WellFormed (program_of program) }
-    ensures member { (result.steps ≤ 24) × (found_of result ≡ member (list_of sc (program_of program)) k) }
+    ensures member { Short result × (found_of result ≡ member (list_of sc (program_of program)) k) }
     ensures zeros { table.new ≡ replicate (length table.old) 0 }
 {
     let m = made(program);
-    let code = program.code;
-    let lengths = program.lengths;
-    let class = m.class;
-    let left = m.left;
-    let masks = m.masks;
-    let x = m.spot;
     let shape = shape_of(m.width, m.deep, table.len(), 2);
     clear(table);
-    let r = kth_behind(&code, &lengths, &class, &left, &masks, shape, x, table, k);
+    let r = kth_behind(&m, shape, &m.spot, table, k);
     clear(table);
     r
 }
@@ -43,17 +39,9 @@ pub fn rank(program: Compiled, schedule: &[u8], table: &mut [u64]) -> u64
     ensures zeros { table.new ≡ replicate (length table.old) 0 }
 {
     let m = made(program);
-    let code = program.code;
-    let lengths = program.lengths;
-    let class = m.class;
-    let left = m.left;
-    let masks = m.masks;
-    let x = m.spot;
     let shape = shape_of(m.width, m.deep, table.len(), 2);
     clear(table);
-    let n = rank_behind(
-        &code, &lengths, &class, &left, &masks, shape, x, table, schedule,
-    );
+    let n = rank_behind(&m, shape, &m.spot, table, schedule);
     clear(table);
     n
 }

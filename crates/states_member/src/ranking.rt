@@ -17,111 +17,93 @@ ghost use Rattle.states_live.specs.Live.{Live};
 ghost use Rattle.states_key.specs.Stands.{Stands};
 ghost use Rattle.states_walk.specs.Known.{Numbered, numbers_by};
 
-use file_rows::Code;
 use search_rules::some_asleep;
 use search_walk::is_tried;
 use states_key::Spot;
-use states_memory::{Shape, Tally, added};
-use states_walk::{advanced, visit};
+use states_memory::{NONE, Shape, Tally, added};
+use states_walk::{Setup, advance, visit};
 
 // Those with a smaller next step than b.
-fn smaller(
-    code: &Code,
-    lengths: &[usize; 6],
-    class: &[usize; 6],
-    left: &[u8; 192],
-    masks: &[u8; 96],
-    shape: Shape,
-    x: Spot,
-    table: &mut [u64],
-    b: u8,
-) -> Tally
+fn smaller(setup: &Setup, shape: Shape, x: &Spot, table: &mut [u64], b: u8) -> Tally
     requires { ((threads : ℕ) × (groups : ℕ) × (p : Program) × (v : Schedule)
-        × Stands code.now lengths.now class.now threads groups x p v)
-        × Left code.now lengths.now left.now × Live code.now lengths.now masks.now × (shape.width ≤ 18) × (b ≤ 6) }
+        × Stands setup.now.program.code setup.now.program.lengths setup.now.program.class threads groups x.now p v)
+        × Left setup.now.program.code setup.now.program.lengths setup.now.left
+        × Live setup.now.program.code setup.now.program.lengths setup.now.masks × (shape.width ≤ 18) × (b ≤ 6) }
     ensures words { length table.new ≡ length table.old }
     ensures numbers { (threads groups : ℕ) (p : Program) (v : Schedule)
-        → Stands code.now lengths.now class.now threads groups x p v → Wide shape.width p
+        → Stands setup.now.program.code setup.now.program.lengths setup.now.program.class threads groups x.now p v → Wide shape.width p
         → Numbered p shape.width shape.slots table.old
         → Wrapped (sum_range (numbers_by p v) b 0) result.listed result.failing
         × Numbered p shape.width shape.slots table.new }
 {
-    let mut sum = Tally {
-        listed: 0,
-        failing: 0,
-    };
-    let mut t = 0;
-    while t < b {
-        if is_tried(class, &x.words, x.live, x.late, t) {
-            let n = visit(code, lengths, class, left, masks, shape, x, table, t);
+    let mut sum = NONE;
+    for t in 0..b {
+        if is_tried(
+            &setup.program.class,
+            &x.place.words,
+            x.place.live,
+            x.place.late,
+            t,
+        ) {
+            let n = visit(setup, shape, x, table, t);
             sum = added(sum, n);
         }
-        t += 1;
     }
     sum
 }
 
 // Whether the search gives up a step of b, which may step.
-fn gives_up(
-    code: &Code,
-    lengths: &[usize; 6],
-    class: &[usize; 6],
-    left: &[u8; 192],
-    x: Spot,
-    b: u8,
-) -> bool
+fn gives_up(setup: &Setup, x: &Spot, b: u8) -> bool
     requires { ((threads : ℕ) × (groups : ℕ) × (p : Program) × (v : Schedule)
-        × Stands code.now lengths.now class.now threads groups x p v × (enabled (end_of p v) b ≡ true))
-        × Left code.now lengths.now left.now }
+        × Stands setup.now.program.code setup.now.program.lengths setup.now.program.class threads groups x.now p v × (enabled (end_of p v) b ≡ true))
+        × Left setup.now.program.code setup.now.program.lengths setup.now.left }
     ensures { (threads groups : ℕ) (p : Program) (v : Schedule)
-        → Stands code.now lengths.now class.now threads groups x p v → enabled (end_of p v) b ≡ true
+        → Stands setup.now.program.code setup.now.program.lengths setup.now.program.class threads groups x.now p v → enabled (end_of p v) b ≡ true
         → result ≡ given_up p v (end_of p v) b }
 {
-    if !is_tried(class, &x.words, x.live, x.late, b) {
+    if !is_tried(
+        &setup.program.class,
+        &x.place.words,
+        x.place.live,
+        x.place.late,
+        b,
+    ) {
         return true;
     }
-    let y = advanced(code, lengths, x, b);
-    let threads = y.threads;
-    some_asleep(code, lengths, left, threads, y.late)
+    let mut y = *x;
+    advance(&setup.program, &mut y, b);
+    some_asleep(&setup.program, &setup.left, y.place.threads, y.place.late)
 }
 
 // Those smaller than the schedule, each of whose bytes may step in its turn, behind the last nobody.
 pub(crate) fn rank_behind(
-    code: &Code,
-    lengths: &[usize; 6],
-    class: &[usize; 6],
-    left: &[u8; 192],
-    masks: &[u8; 96],
+    setup: &Setup,
     shape: Shape,
-    x: Spot,
+    x: &Spot,
     table: &mut [u64],
     schedule: &[u8],
 ) -> u64
     requires { ((threads : ℕ) × (groups : ℕ) × (p : Program) × (v : Schedule)
-        × Stands code.now lengths.now class.now threads groups x p v × FullFrom SC (end_of p v) schedule.now)
-        × Left code.now lengths.now left.now × Live code.now lengths.now masks.now × (shape.width ≤ 18) }
+        × Stands setup.now.program.code setup.now.program.lengths setup.now.program.class threads groups x.now p v
+        × FullFrom SC (end_of p v) schedule.now)
+        × Left setup.now.program.code setup.now.program.lengths setup.now.left
+        × Live setup.now.program.code setup.now.program.lengths setup.now.masks × (shape.width ≤ 18) }
     ensures words { length table.new ≡ length table.old }
     ensures number { (threads groups : ℕ) (p : Program) (v : Schedule)
-        → Stands code.now lengths.now class.now threads groups x p v
+        → Stands setup.now.program.code setup.now.program.lengths setup.now.program.class threads groups x.now p v
         → FullFrom SC (end_of p v) schedule.now → Wide shape.width p
         → Numbered p shape.width shape.slots table.old
-        → result ≡ rank (v ++ schedule.now) (found_behind false p x.steps none v) % 2 ^ 64 }
+        → result ≡ rank (v ++ schedule.now) (found_behind false p x.now.place.steps none v) % 2 ^ 64 }
 {
-    let mut y = x;
-    let mut sum = Tally {
-        listed: 0,
-        failing: 0,
-    };
-    let mut i = 0;
-    while i < schedule.len() {
-        let b = schedule[i];
-        let n = smaller(code, lengths, class, left, masks, shape, y, table, b);
+    let mut y = *x;
+    let mut sum = NONE;
+    for b in schedule {
+        let n = smaller(setup, shape, &y, table, *b);
         sum = added(sum, n);
-        if gives_up(code, lengths, class, left, y, b) {
+        if gives_up(setup, &y, *b) {
             return sum.listed;
         }
-        y = advanced(code, lengths, y, b);
-        i += 1;
+        advance(&setup.program, &mut y, *b);
     }
     sum.listed
 }

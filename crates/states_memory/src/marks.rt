@@ -4,19 +4,14 @@ ghost use Rattle.std.proofs.Math.Option.{some};
 ghost use Rattle.table.specs.Places.{said};
 ghost use Rattle.table.specs.Answers.{Honest};
 
+use crate::entries::{entry, put_entry};
 use crate::tally::Shape;
-use table::{Found, look, place, put};
 
 // Whether the table has a mark of this key.
 pub fn is_marked(table: &[u64], shape: Shape, key: &[u64]) -> bool
     ensures { result ≡ true → said shape.slots 0 table.now key.now ≡ some [] }
 {
-    let at = place(shape.slots, 0, key);
-    let found = look(table, at, 0, key);
-    match found {
-        Found::At(i) => true,
-        Found::Nothing => false,
-    }
+    entry(table, shape, 0, key).is_some()
 }
 
 // Marks a key; the table may drop other marks for it.
@@ -24,6 +19,5 @@ pub fn mark(table: &mut [u64], shape: Shape, key: &[u64])
     ensures words { length table.new ≡ length table.old }
     ensures honest { Honest shape.slots key.now [] table.old table.new }
 {
-    let at = place(shape.slots, 0, key);
-    put(table, at, key, &key[..0]);
+    put_entry(table, shape, key, &[]);
 }

@@ -1,38 +1,23 @@
 // The two numbers of a key.
-ghost use Rattle.std.specs.Prelude.{◌≡◌, true, [], ◌∷◌, length};
+ghost use Rattle.std.specs.Prelude.{◌≡◌, [], ◌∷◌, length, IfSome};
 ghost use Rattle.std.proofs.Math.Option.{some};
 ghost use Rattle.table.specs.Places.{said};
 ghost use Rattle.table.specs.Answers.{Honest};
+ghost use Rattle.states_memory.specs.declared.tally.Tally.{Tally};
 
+use crate::entries::{entry, put_entry};
 use crate::tally::{Shape, Tally};
-use table::{Found, look, place, put};
-
-#[derive(Clone, Copy)]
-pub struct Recalled {
-    pub known: bool,
-    pub listed: u64,
-    pub failing: u64,
-}
 
 // What the table says of a key, if anything.
-pub fn recall(table: &[u64], shape: Shape, key: &[u64]) -> Recalled
-    ensures { result.known ≡ true
-        → said shape.slots 2 table.now key.now ≡ some (result.listed ∷ result.failing ∷ []) }
+pub fn recall(table: &[u64], shape: Shape, key: &[u64]) -> Option<Tally>
+    ensures { IfSome result
+        (λ (n : Tally). said shape.slots 2 table.now key.now ≡ some (n.listed ∷ n.failing ∷ [])) }
 {
-    let at = place(shape.slots, 2, key);
-    let found = look(table, at, 2, key);
-    match found {
-        Found::At(i) => Recalled {
-            known: true,
-            listed: table[i],
-            failing: table[i + 1],
-        },
-        Found::Nothing => Recalled {
-            known: false,
-            listed: 0,
-            failing: 0,
-        },
-    }
+    let e = entry(table, shape, 2, key)?;
+    Some(Tally {
+        listed: e[0],
+        failing: e[1],
+    })
 }
 
 // Puts the numbers of a key into the table, which may drop others for them.
@@ -41,7 +26,5 @@ pub fn keep(table: &mut [u64], shape: Shape, key: &[u64], n: Tally)
     ensures honest { Honest shape.slots key.now (n.listed ∷ n.failing ∷ [])
         table.old table.new }
 {
-    let at = place(shape.slots, 2, key);
-    let entry = [n.listed, n.failing];
-    put(table, at, key, &entry);
+    put_entry(table, shape, key, &[n.listed, n.failing]);
 }

@@ -1,13 +1,23 @@
 // How many are listed, and how many of these fail, added up modulo 2^64.
 ghost use Rattle.std.specs.Prelude.{◌≡◌, ◌+◌, ◌%◌, ◌^◌, if◌then◌else◌};
 
-use std::num::wrapping_add_u64;
-
 #[derive(Clone, Copy)]
 pub struct Tally {
     pub listed: u64,
     pub failing: u64,
 }
+
+// No schedule.
+pub const NONE: Tally = Tally {
+    listed: 0,
+    failing: 0,
+};
+
+// One schedule, which does not fail.
+pub const ONE: Tally = Tally {
+    listed: 1,
+    failing: 0,
+};
 
 // How many words a key has, how many slots the table, and behind how many steps no key is looked up any more.
 #[derive(Clone, Copy)]
@@ -22,8 +32,8 @@ pub fn added(a: Tally, b: Tally) -> Tally
     ensures { (result.listed ≡ (a.listed + b.listed) % 2 ^ 64) × (result.failing ≡ (a.failing + b.failing) % 2 ^ 64) }
 {
     Tally {
-        listed: wrapping_add_u64(a.listed, b.listed),
-        failing: wrapping_add_u64(a.failing, b.failing),
+        listed: a.listed.wrapping_add(b.listed),
+        failing: a.failing.wrapping_add(b.failing),
     }
 }
 
@@ -32,10 +42,11 @@ pub fn charged(fails: bool, n: Tally) -> Tally
     ensures { (result.listed ≡ n.listed) × (result.failing ≡ (if fails then n.listed else n.failing)) }
 {
     if fails {
-        return Tally {
-            listed: n.listed,
+        Tally {
             failing: n.listed,
-        };
+            ..n
+        }
+    } else {
+        n
     }
-    n
 }

@@ -4,7 +4,7 @@ use mathlib.Core.Path.{◌≡◌, sym, ap, ap₂, subst, ◌∙◌}
 use mathlib.Core.Bool.{Bool, true, false}
 use mathlib.Core.Option.{Option, none, some}
 use mathlib.Core.List.{List, [], ◌∷◌, ◌++◌}
-use lib.ListN.{length, take, drop}
+use lib.ListN.{length, drop}
 use borrow.Author.Tests.{eqb-false, not-true}
 use Rattle.spec_file.specs.Program.{Program}
 use Rattle.spec_file.specs.WellFormed.{WellFormed}
@@ -29,12 +29,13 @@ use Rattle.search_walk.specs.Tried.{tried}
 use Rattle.search_walk.proofs.TriedSteps.{tried_enabled, untried_none}
 use Rattle.table.specs.Places.{said}
 use Rattle.table.specs.Answers.{Honest}
-use Rattle.states_key.specs.Stands.{place_of, Stands}
+use Rattle.states_key.specs.Stands.{Stands}
 use Rattle.states_key.specs.declared.spot.Spot.{Spot}
-use Rattle.states_walk.specs.FoundOf.{found_of}
-use Rattle.states_walk.specs.declared.seeking.First.{First}
+use Rattle.std.specs.Prelude as Prelude
+use Rattle.std.specs.Prelude.{cond}
+use Rattle.listing_cursor.specs.Steps.{steps_of, found_of}
+use Rattle.listing_cursor.specs.declared.steps.Steps.{Steps}
 use Rattle.states_walk.proofs.Numbered.{Asleep, awake_cut, Cases}
-use Rattle.states_walk.proofs.FirstFound.{found_none, found_some}
 use Rattle.states_outcomes.specs.declared.known.Frame.{Frame}
 use Rattle.states_outcomes.specs.Rows.{is_new}
 use Rattle.states_outcomes.specs.Swept.{Swept}
@@ -52,20 +53,19 @@ module _ (test : Outcome → Bool) (p : Program) (steps : ℕ) (v : Schedule) (t
   untried_new e = none_with sc given_up test p steps v t (untried_none p v t false steps none e)
 
 -- ---- where nobody may step: the prefix, if its outcome passes
-pub ended_new : (test : Outcome → Bool) (p : Program) (steps : ℕ) (v : Schedule) → ended SC (end_of p v) ≡ true → (r : First) → r.found ≡ passes sc test (end_of p v) → take r.steps r.schedule ≡ v
-    → found_of r ≡ head_of (passing_behind test p steps v)
-unfolding found_of
-ended_new test p steps v e r = ended_with sc given_up test p steps v e r.found (take r.steps r.schedule)
+pub ended_new : (test : Outcome → Bool) (p : Program) (steps : ℕ) (v : Schedule) → ended SC (end_of p v) ≡ true → (b : Bool) (u : Schedule) → b ≡ passes sc test (end_of p v) → u ≡ v
+    → cond b (some u) none ≡ head_of (passing_behind test p steps v)
+ended_new test p steps v e b u = ended_with sc given_up test p steps v e b u
 
 -- the outcome that a spot holds
 pub spot_outcome : (code lengths class : List ℕ) (threads groups : ℕ) (x : Spot) (p : Program) (v : Schedule) → Stands code lengths class threads groups x p v → (f : Bool) → f ≡ fails (end_of p v) →
-    record { memory = x.memory; fails = f } ≡ outcome_at sc (end_of p v)
+    record { memory = x.place.memory; fails = f } ≡ outcome_at sc (end_of p v)
 spot_outcome code lengths class threads groups x p v at f e =
     let h = at.reached.holds in
-    ap₂ (λ (m : List ℕ) (b : Bool). let o : Outcome = record { memory = m; fails = b } in o) (values_memory (end_of p v) x.memory h.eight h.sizes.1 h.values) e
+    ap₂ (λ (m : List ℕ) (b : Bool). let o : Outcome = record { memory = m; fails = b } in o) (values_memory (end_of p v) x.place.memory h.eight h.sizes.1 h.values) e
 
 pub outcome_here : (code lengths class : List ℕ) (threads groups : ℕ) (x : Spot) (p : Program) (v : Schedule) → Stands code lengths class threads groups x p v → (f : Bool) → f ≡ fails (end_of p v) →
-    (test : Outcome → Bool) → test (record { memory = x.memory; fails = f }) ≡ passes sc test (end_of p v)
+    (test : Outcome → Bool) → test (record { memory = x.place.memory; fails = f }) ≡ passes sc test (end_of p v)
 outcome_here code lengths class threads groups x p v at f e test = ap test (spot_outcome code lengths class threads groups x p v at f e)
 
 -- ---- with marks
@@ -90,13 +90,13 @@ module _ (p : Program) (w : WellFormed p) (f : Frame) (rows : List ℕ) (wide : 
 abbrev pub Still : (code lengths class : List ℕ) (f : Frame) (x : Spot) (rows lent₀ lent : List ℕ) (t : ℕ) → Type 0
 Still code lengths class f x rows lent₀ lent t =
     (c : Cases code lengths class x) → Wide f.width c.2 → Swept c.2 f rows lent₀
-    → Seeks (λ d. passing_with (is_new rows f.known) c.2 x.steps c.3 d) 6 (passing_behind (is_new rows f.known) c.2 x.steps c.3) t × Swept c.2 f rows lent
+    → Seeks (λ d. passing_with (is_new rows f.known) c.2 x.place.steps c.3 d) 6 (passing_behind (is_new rows f.known) c.2 x.place.steps c.3) t × Swept c.2 f rows lent
 
 -- what a turn with t answers
-abbrev pub Visits : (code lengths class : List ℕ) (f : Frame) (x : Spot) (t : ℕ) (r : First) (lent lent' : List ℕ) (rows : List ℕ) → Type 0
+abbrev pub Visits : (code lengths class : List ℕ) (f : Frame) (x : Spot) (t : ℕ) (r : Prelude.Option (Steps 24)) (lent lent' : List ℕ) (rows : List ℕ) → Type 0
 Visits code lengths class f x t r lent lent' rows =
     (threads groups : ℕ) (p : Program) (v : Schedule) → Stands code lengths class threads groups x p v → Wide f.width p → Swept p f rows lent
-    → (found_of r ≡ head_of (passing_with (is_new rows f.known) p x.steps v t)) × Swept p f rows lent'
+    → (found_of r ≡ head_of (passing_with (is_new rows f.known) p x.place.steps v t)) × Swept p f rows lent'
 
 module _ (code lengths class : List ℕ) (f : Frame) (x : Spot) (rows lent₀ : List ℕ) where
   abbrev test : Outcome → Bool
@@ -107,34 +107,31 @@ module _ (code lengths class : List ℕ) (f : Frame) (x : Spot) (rows lent₀ : 
       let p = c.2 in
       let v = c.3 in
       let going = e c.0 c.1 p v c.4 in (
-        seek_start (λ d. passing_with test p x.steps v d) 6 (passing_behind test p x.steps v) _ low_none
-            (turns_with sc given_up test p x.steps v going (reached_open code lengths class c.0 c.1 (place_of x) p v c.4.reached going)),
+        seek_start (λ d. passing_with test p x.place.steps v d) 6 (passing_behind test p x.place.steps v) _ low_none
+            (turns_with sc given_up test p x.place.steps v going (reached_open code lengths class c.0 c.1 x.place p v c.4.reached going)),
         marks,
       )
 
   -- with t, which is tried: found
-  pub new_found : (lent lent' : List ℕ) (t : ℕ) → t < 6 → Still code lengths class f x rows lent₀ lent t → (r : First) → (now : List ℕ) → now ≡ rows → Visits code lengths class f x t r lent lent' now
-      → r.found ≡ true → (c : Cases code lengths class x) → Wide f.width c.2 → Swept c.2 f rows lent₀
-      → (found_of r ≡ head_of (passing_behind test c.2 x.steps c.3)) × Swept c.2 f rows lent'
-  new_found lent lent' t h still r now same visited b c wide marks =
+  pub new_found : (lent lent' : List ℕ) (t : ℕ) → t < 6 → Still code lengths class f x rows lent₀ lent t → (s : Steps 24) → (now : List ℕ) → now ≡ rows → Visits code lengths class f x t (Prelude.Some s) lent lent' now
+      → (c : Cases code lengths class x) → Wide f.width c.2 → Swept c.2 f rows lent₀
+      → (some (steps_of s) ≡ head_of (passing_behind test c.2 x.place.steps c.3)) × Swept c.2 f rows lent'
+  new_found lent lent' t h still s now same visited c wide marks =
       let p = c.2 in
       let v = c.3 in
       let before = still c wide marks in
-      let q = subst (Visits code lengths class f x t r lent lent') same visited c.0 c.1 p v c.4 wide before.1 in (
-        sym (found_some r b)
-            ∙ seek_found (λ d. passing_with test p x.steps v d) 6 (passing_behind test p x.steps v) t h before.0 (take r.steps r.schedule) (found_some r b ∙ q.0),
-        q.1,
-      )
+      let q = subst (Visits code lengths class f x t (Prelude.Some s) lent lent') same visited c.0 c.1 p v c.4 wide before.1 in
+      (seek_found (λ d. passing_with test p x.place.steps v d) 6 (passing_behind test p x.place.steps v) t h before.0 (steps_of s) q.0, q.1)
 
   -- not found
-  pub new_none : (lent lent' behind : List ℕ) (t : ℕ) → t < 6 → Still code lengths class f x rows lent₀ lent t → (r : First) → (now : List ℕ) → now ≡ rows → Visits code lengths class f x t r lent lent' now
-      → r.found ≡ false → behind ≡ lent' → Still code lengths class f x rows lent₀ behind (t + 1)
-  new_none lent lent' behind t h still r now same visited b eb c wide marks =
+  pub new_none : (lent lent' behind : List ℕ) (t : ℕ) → t < 6 → Still code lengths class f x rows lent₀ lent t → (now : List ℕ) → now ≡ rows → Visits code lengths class f x t Prelude.None lent lent' now
+      → behind ≡ lent' → Still code lengths class f x rows lent₀ behind (t + 1)
+  new_none lent lent' behind t h still now same visited eb c wide marks =
       let p = c.2 in
       let v = c.3 in
       let before = still c wide marks in
-      let q = subst (Visits code lengths class f x t r lent lent') same visited c.0 c.1 p v c.4 wide before.1 in (
-        seek_next (λ d. passing_with test p x.steps v d) 6 (passing_behind test p x.steps v) t h before.0 (found_none r b ∙ q.0),
+      let q = subst (Visits code lengths class f x t Prelude.None lent lent') same visited c.0 c.1 p v c.4 wide before.1 in (
+        seek_next (λ d. passing_with test p x.place.steps v d) 6 (passing_behind test p x.place.steps v) t h before.0 q.0,
         subst (Swept p f rows) (sym eb) q.1,
       )
 
@@ -145,13 +142,13 @@ module _ (code lengths class : List ℕ) (f : Frame) (x : Spot) (rows lent₀ : 
       let p = c.2 in
       let v = c.3 in
       let before = still c wide marks in (
-        seek_next (λ d. passing_with test p x.steps v d) 6 (passing_behind test p x.steps v) t h before.0 (untried_new test p x.steps v t (not-tried c.0 c.1 p v c.4)),
+        seek_next (λ d. passing_with test p x.place.steps v d) 6 (passing_behind test p x.place.steps v) t h before.0 (untried_new test p x.place.steps v t (not-tried c.0 c.1 p v c.4)),
         subst (Swept p f rows) (sym eb) before.1,
       )
 
   -- no step is left
   pub new_over : (lent : List ℕ) (t : ℕ) → 6 ≤ t → Still code lengths class f x rows lent₀ lent t → (c : Cases code lengths class x) → Wide f.width c.2 → Swept c.2 f rows lent₀
-      → (none ≡ head_of (passing_behind test c.2 x.steps c.3)) × Swept c.2 f rows lent
+      → (none ≡ head_of (passing_behind test c.2 x.place.steps c.3)) × Swept c.2 f rows lent
   new_over lent t h still c wide marks =
       let before = still c wide marks in
-      (seek_over (λ d. passing_with test c.2 x.steps c.3 d) 6 (passing_behind test c.2 x.steps c.3) t h before.0, before.1)
+      (seek_over (λ d. passing_with test c.2 x.place.steps c.3 d) 6 (passing_behind test c.2 x.place.steps c.3) t h before.0, before.1)

@@ -3,9 +3,7 @@
 pub mod Values
 -- rows of outcomes: known, not known, one more
 pub mod RowLists
--- a row of words written before a place
-pub mod Noted
--- the words behind a place, lent as a part of all
+-- a table that says nothing says nothing false
 pub mod Parts
 -- the first new outcome behind a prefix: with one next step, over the next steps in turn
 pub mod FirstNew

@@ -4,36 +4,21 @@ use mathlib.Core.Path.{◌≡◌, refl, sym, ap, ap₂, subst, ◌∙◌}
 use mathlib.Core.Logic.{◌⊎◌, inl, inr, ◌≢◌, ⊎_elim}
 use mathlib.Core.Bool.{Bool, true, false, true≢false, cond, not, ◌||◌}
 use mathlib.Core.Option.{Option, none, some}
-use mathlib.Core.List.{List, [], ◌∷◌}
+use mathlib.Core.List.{List, []}
 use native.Mathlib.Omega.{arith}
 use native.Mathlib.Decide.{dec_lt}
-use lib.ListN.{length, get_or, take, drop}
+use lib.ListN.{length, get_or}
 use lib.Seq.{paste, length-paste}
 use borrow.Author.Tests.{not-true, not-false}
 use Rattle.spec_file.proofs.Tests.{either}
 use Rattle.spec_model.proofs.Permitted.{or_left, or_right}
 use Rattle.spec_covers.specs.declared.outcome.Outcome.{Outcome}
 use Rattle.table.specs.Said.{part, said_at}
-use Rattle.table.specs.Answers.{read}
-use Rattle.table.specs.declared.looking.Found.{Found}
-use Rattle.table.specs.declared.looking.Found.TheVariants.{At, Nothing}
 use Rattle.table.proofs.Slot.{said_some, said_is}
 use Rattle.table.proofs.Written.{part_written, part_before}
 use Rattle.states_outcomes.specs.Rows.{told, row_of, known_row, is_new, Adds}
 
 -- ---- a row
-pub eight_values : (m : List ℕ) → length m ≡ 8 → get_or m 0 0 ∷ get_or m 1 0 ∷ get_or m 2 0 ∷ get_or m 3 0 ∷ get_or m 4 0 ∷ get_or m 5 0 ∷ get_or m 6 0 ∷ get_or m 7 0 ∷ [] ≡ m
-eight_values [] n = absurd (omega arith)
-eight_values (a ∷ []) n = absurd (omega arith)
-eight_values (a ∷ b ∷ []) n = absurd (omega arith)
-eight_values (a ∷ b ∷ c ∷ []) n = absurd (omega arith)
-eight_values (a ∷ b ∷ c ∷ d ∷ []) n = absurd (omega arith)
-eight_values (a ∷ b ∷ c ∷ d ∷ e ∷ []) n = absurd (omega arith)
-eight_values (a ∷ b ∷ c ∷ d ∷ e ∷ f ∷ []) n = absurd (omega arith)
-eight_values (a ∷ b ∷ c ∷ d ∷ e ∷ f ∷ g ∷ []) n = absurd (omega arith)
-eight_values (a ∷ b ∷ c ∷ d ∷ e ∷ f ∷ g ∷ h ∷ []) n = refl
-eight_values (a ∷ b ∷ c ∷ d ∷ e ∷ f ∷ g ∷ h ∷ i ∷ m) n = absurd (omega arith)
-
 row_head : (o : Outcome) → get_or (row_of o) 0 0 ≢ 0
 row_head o e = go o.fails refl
   where
@@ -55,13 +40,6 @@ row_once x y e =
     let h : ◌≡◌ {A = ℕ} (cond x.fails 2 1) (cond y.fails 2 1) = cc in
     let t : x.memory ≡ y.memory = cc in
     ap₂ outcome t (sign_once x.fails y.fails h)
-
--- ---- what stands at a place
-pub stands_there : (m k : List ℕ) (at i : ℕ) (r : Found) → r ≡ At i → read m 0 r ≡ said_at at 0 m k → true ≡ told (said_at at 0 m k)
-stands_there m k at i r q s = ap told (sym (ap (read m 0) q) ∙ s)
-
-pub stands_not : (m k : List ℕ) (at : ℕ) (r : Found) → r ≡ Nothing → read m 0 r ≡ said_at at 0 m k → false ≡ told (said_at at 0 m k)
-stands_not m k at r q s = ap told (sym (ap (read m 0) q) ∙ s)
 
 told_some : (o : Option (List ℕ)) → told o ≡ true → (c : List ℕ) × (o ≡ some c)
 told_some (some c) e = (c, refl)
@@ -152,10 +130,6 @@ module _ (m : List ℕ) (n : ℕ) (o : Outcome) (eight : length o.memory ≡ 8) 
 
   pub row_adds : Adds m n o m' (n + 1)
   row_adds = record { known = row_known; stays = row_stays; only = row_new }
-
--- an outcome that is known already
-pub known_adds : (rows : List ℕ) (n : ℕ) (o : Outcome) → is_new rows n o ≡ false → Adds rows n o rows n
-known_adds rows n o e = record { known = not-false _ e; stays = λ x k q. q; only = λ x k q. inl q }
 
 -- WITH ONE OUTCOME MORE fewer are new, and it alone is so no more
 module _ (rows : List ℕ) (n : ℕ) (o : Outcome) (rows' : List ℕ) (n' : ℕ) (adds : Adds rows n o rows' n') where

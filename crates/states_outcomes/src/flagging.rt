@@ -16,9 +16,10 @@ pub fn flag(word: u64, failed: bool) -> u64
     ensures { result ≡ cond failed (word % 2 ^ 62 + 3 * 2 ^ 62) word }
 {
     if failed {
-        return word % 0x4000_0000_0000_0000 + 0xc000_0000_0000_0000;
+        word % 0x4000_0000_0000_0000 + 0xc000_0000_0000_0000
+    } else {
+        word
     }
-    word
 }
 
 // The key of the position that this spot is, where something has failed or not.
@@ -26,17 +27,16 @@ pub(crate) fn outcome_key(
     lengths: &[usize; 6],
     class: &[usize; 6],
     masks: &[u8; 96],
-    x: Spot,
+    x: &Spot,
     failed: bool,
 ) -> [u64; 18]
     requires { (code : List ℕ) × (threads : ℕ) × (groups : ℕ) × (p : Program) × (v : Schedule)
-        × Stands code lengths.now class.now threads groups x p v }
+        × Stands code lengths.now class.now threads groups x.now p v }
     ensures { (code : List ℕ) (threads groups n : ℕ) (p : Program) (v : Schedule)
-        → Stands code lengths.now class.now threads groups x p v → Live code lengths.now masks.now
+        → Stands code lengths.now class.now threads groups x.now p v → Live code lengths.now masks.now
         → length (words_of (key_of p v (end_of p v))) ≤ n → n ≤ 18 → failed ≡ fails (end_of p v) → take n result ≡ outcome_key n p v (end_of p v) }
 {
     let mut k = key(lengths, class, masks, x);
-    let first = flag(k[0], failed);
-    k[0] = first;
+    k[0] = flag(k[0], failed);
     k
 }

@@ -1,5 +1,5 @@
 // All outcomes behind a prefix, added to the known ones as the walk comes to them. A key behind which none is left is marked, and passed over.
-ghost use Rattle.std.specs.Prelude.{◌≡◌, true, false, ℕ, ◌*◌, ◌≤◌, length};
+ghost use Rattle.std.specs.Prelude.{◌≡◌, true, ℕ, ◌*◌, ◌≤◌, length, IfSome};
 ghost use Rattle.std.proofs.Math.Option.{none};
 ghost use Rattle.spec_file.specs.Program.{Program};
 ghost use Rattle.spec_schedules.specs.Lists.{head_of};
@@ -14,106 +14,80 @@ ghost use Rattle.states_outcomes.specs.Gathered.{Gathers};
 
 use crate::flagging::outcome_key;
 use crate::known::Frame;
-use crate::noting::{Rows, add_row};
+use crate::noting::add_row;
 use crate::sweeping::{is_swept, sweep};
-use file_rows::Code;
 use machine::some_failed;
 use search_rules::some_asleep;
 use search_walk::is_tried;
 use states_key::Spot;
-use states_walk::advanced;
+use states_walk::{Setup, advance};
 
 // Of those with t, which is tried, as the next step.
 #[cycle(rows_behind_rows_with)]
-fn rows_with(
-    code: &Code,
-    lengths: &[usize; 6],
-    class: &[usize; 6],
-    left: &[u8; 192],
-    masks: &[u8; 96],
-    frame: Frame,
-    x: Spot,
-    lent: &mut [u64],
-    t: u8,
-) -> Rows
+fn rows_with(setup: &Setup, frame: Frame, x: &Spot, lent: &mut [u64], t: u8) -> Option<usize>
     requires { ((threads : ℕ) × (groups : ℕ) × (p : Program) × (v : Schedule)
-        × Stands code.now lengths.now class.now threads groups x p v)
-        × Left code.now lengths.now left.now × Live code.now lengths.now masks.now × (frame.width ≤ 18)
+        × Stands setup.now.program.code setup.now.program.lengths setup.now.program.class threads groups x.now p v)
+        × Left setup.now.program.code setup.now.program.lengths setup.now.left
+        × Live setup.now.program.code setup.now.program.lengths setup.now.masks × (frame.width ≤ 18)
         × (9 * frame.known ≤ frame.cut) × (frame.cut ≤ length lent.old)
-        × ((threads groups : ℕ) (p : Program) (v : Schedule) → Stands code.now lengths.now class.now threads groups x p v
+        × ((threads groups : ℕ) (p : Program) (v : Schedule)
+        → Stands setup.now.program.code setup.now.program.lengths setup.now.program.class threads groups x.now p v
         → tried p v t ≡ true) }
-    ensures words { (length lent.new ≡ length lent.old) × (9 * result.known ≤ frame.cut) }
-    ensures rows { result.full ≡ false → (threads groups : ℕ) (p : Program) (v : Schedule)
-        → Stands code.now lengths.now class.now threads groups x p v → Wide frame.width p
-        → Gathers p frame lent.old lent.new result.known (λ test. none ≡ head_of (passing_with test p x.steps v t)) }
+    ensures words { length lent.new ≡ length lent.old }
+    ensures within { IfSome result (λ n. 9 * n ≤ frame.cut) }
+    ensures rows { IfSome result (λ n. (threads groups : ℕ) (p : Program) (v : Schedule)
+        → Stands setup.now.program.code setup.now.program.lengths setup.now.program.class threads groups x.now p v → Wide frame.width p
+        → Gathers p frame lent.old lent.new n (λ test. none ≡ head_of (passing_with test p x.now.place.steps v t))) }
 {
-    let y = advanced(code, lengths, x, t);
-    let threads = y.threads;
-    if some_asleep(code, lengths, left, threads, y.late) {
-        return Rows {
-            known: frame.known,
-            full: false,
-        };
+    let mut y = *x;
+    advance(&setup.program, &mut y, t);
+    if some_asleep(&setup.program, &setup.left, y.place.threads, y.place.late) {
+        return Some(frame.known);
     }
-    let r = rows_behind(code, lengths, class, left, masks, frame, y, lent);
-    r
+    rows_behind(setup, frame, &y, lent)
 }
 
 // Of all behind the steps taken.
 #[cycle(rows_behind_rows_with)]
-pub(crate) fn rows_behind(
-    code: &Code,
-    lengths: &[usize; 6],
-    class: &[usize; 6],
-    left: &[u8; 192],
-    masks: &[u8; 96],
-    frame: Frame,
-    x: Spot,
-    lent: &mut [u64],
-) -> Rows
+pub(crate) fn rows_behind(setup: &Setup, frame: Frame, x: &Spot, lent: &mut [u64]) -> Option<usize>
     requires { ((threads : ℕ) × (groups : ℕ) × (p : Program) × (v : Schedule)
-        × Stands code.now lengths.now class.now threads groups x p v)
-        × Left code.now lengths.now left.now × Live code.now lengths.now masks.now × (frame.width ≤ 18)
+        × Stands setup.now.program.code setup.now.program.lengths setup.now.program.class threads groups x.now p v)
+        × Left setup.now.program.code setup.now.program.lengths setup.now.left
+        × Live setup.now.program.code setup.now.program.lengths setup.now.masks × (frame.width ≤ 18)
         × (9 * frame.known ≤ frame.cut) × (frame.cut ≤ length lent.old) }
-    ensures words { (length lent.new ≡ length lent.old) × (9 * result.known ≤ frame.cut) }
-    ensures rows { result.full ≡ false → (threads groups : ℕ) (p : Program) (v : Schedule)
-        → Stands code.now lengths.now class.now threads groups x p v → Wide frame.width p
-        → Gathers p frame lent.old lent.new result.known (λ test. none ≡ head_of (passing_behind test p x.steps v)) }
+    ensures words { length lent.new ≡ length lent.old }
+    ensures within { IfSome result (λ n. 9 * n ≤ frame.cut) }
+    ensures rows { IfSome result (λ n. (threads groups : ℕ) (p : Program) (v : Schedule)
+        → Stands setup.now.program.code setup.now.program.lengths setup.now.program.class threads groups x.now p v → Wide frame.width p
+        → Gathers p frame lent.old lent.new n (λ test. none ≡ head_of (passing_behind test p x.now.place.steps v))) }
 {
-    let failed = some_failed(x.threads);
+    let failed = some_failed(x.place.threads);
+    if x.place.live == 0 {
+        return add_row(x.place.memory, failed, frame, lent);
+    }
+    let k = outcome_key(
+        &setup.program.lengths,
+        &setup.program.class,
+        &setup.masks,
+        x,
+        failed,
+    );
     let mut known = frame.known;
-    if x.live == 0 {
-        let memory = x.memory;
-        let r = add_row(memory, failed, frame, lent);
-        return r;
-    }
-    let k = outcome_key(lengths, class, masks, x, failed);
     if is_swept(lent, frame, &k) {
-        return Rows {
-            known: known,
-            full: false,
-        };
+        return Some(known);
     }
-    let mut t = 0;
-    while t < 6 {
-        if is_tried(class, &x.words, x.live, x.late, t) {
-            let grown = Frame {
-                width: frame.width,
-                slots: frame.slots,
-                cut: frame.cut,
-                known: known,
-            };
-            let r = rows_with(code, lengths, class, left, masks, grown, x, lent, t);
-            if r.full {
-                return r;
-            }
-            known = r.known;
+    for t in 0..6 {
+        if is_tried(
+            &setup.program.class,
+            &x.place.words,
+            x.place.live,
+            x.place.late,
+            t,
+        ) {
+            let grown = Frame { known, ..frame };
+            known = rows_with(setup, grown, x, lent, t)?;
         }
-        t += 1;
     }
     sweep(lent, frame, &k);
-    Rows {
-        known: known,
-        full: false,
-    }
+    Some(known)
 }

@@ -3,7 +3,8 @@ ghost use Rattle.std.specs.Prelude.{◌≡◌, cond, ◌*◌, ◌≤◌, length}
 ghost use Rattle.table.specs.Said.{said_at};
 ghost use Rattle.states_outcomes.specs.Rows.{told, row_of, known_row};
 
-use table::{Found, look};
+use file_lines::choose;
+use table::look;
 
 // How lent words are divided: before `cut` stand so many known outcomes, behind it a table of so many slots with keys of so many words.
 #[derive(Clone, Copy)]
@@ -14,22 +15,12 @@ pub struct Frame {
     pub known: usize,
 }
 
-// The first word of an outcome, which is never 0.
-fn sign(failed: bool) -> u64
-    ensures { result ≡ cond failed 2 1 }
-{
-    if failed {
-        return 2;
-    }
-    1
-}
-
-// An outcome: whether something failed, and the eight values of memory.
+// An outcome: whether something failed, in a word that is never 0, and the eight values of memory.
 pub(crate) fn row_of(memory: [u32; 8], failed: bool) -> [u64; 9]
     ensures { result ≡ row_of (record { memory = memory; fails = failed }) }
 {
-    let row = [
-        sign(failed),
+    [
+        choose(failed, 2, 1),
         memory[0] as u64,
         memory[1] as u64,
         memory[2] as u64,
@@ -38,19 +29,14 @@ pub(crate) fn row_of(memory: [u32; 8], failed: bool) -> [u64; 9]
         memory[5] as u64,
         memory[6] as u64,
         memory[7] as u64,
-    ];
-    row
+    ]
 }
 
 // Whether the words from here on are the row's.
 fn stands(rows: &[u64], at: usize, row: &[u64]) -> bool
     ensures { result ≡ told (said_at at 0 rows.now row.now) }
 {
-    let found = look(rows, at, 0, row);
-    match found {
-        Found::At(i) => true,
-        Found::Nothing => false,
-    }
+    look(rows, at, 0, row).is_some()
 }
 
 // Whether the row is among the first n.
@@ -58,12 +44,10 @@ pub(crate) fn is_known(rows: &[u64], n: usize, row: &[u64]) -> bool
     requires { 9 * n ≤ length rows.now }
     ensures { result ≡ known_row rows.now n row.now }
 {
-    let mut k = 0;
-    while k < n {
+    for k in 0..n {
         if stands(rows, 9 * k, row) {
             return true;
         }
-        k += 1;
     }
     false
 }

@@ -22,5 +22,5 @@ pub use all::all_rows;
 pub use first::first_new;
 pub use flagging::flag;
 pub use known::Frame;
-pub use noting::{Rows, add_row, note};
+pub use noting::{add_row, note};
 pub use sweeping::{is_new, is_swept, sweep, unmark};

@@ -1,5 +1,5 @@
 // Outcomes written as rows of words, one behind the other. Both memory models write them so.
-ghost use Rattle.std.specs.Prelude.{◌≡◌, false, ◌+◌, ◌*◌, ◌≤◌, length, take, drop};
+ghost use Rattle.std.specs.Prelude.{◌≡◌, ◌+◌, ◌*◌, ◌≤◌, length, take, drop, IfSome};
 ghost use Rattle.std.proofs.Math.Seq.{paste};
 ghost use Rattle.states_outcomes.specs.Rows.{row_of, Adds};
 
@@ -8,53 +8,34 @@ use crate::sweeping::is_new;
 use spec_covers::Outcome;
 use table::write;
 
-// How many outcomes are known, and whether one more had no room.
-#[derive(Clone, Copy)]
-pub struct Rows {
-    pub known: usize,
-    pub full: bool,
-}
-
 // Writes an outcome as row k, before `cut`.
 pub fn note(o: Outcome, k: usize, cut: usize, lent: &mut [u64])
     requires { (9 * k + 9 ≤ cut) × (cut ≤ length lent.old) }
     ensures words { (length lent.new ≡ length lent.old) × (drop cut lent.new ≡ drop cut lent.old) }
     ensures row { take cut lent.new ≡ paste (take cut lent.old) (9 * k) (row_of o) 9 }
 {
-    let memory = o.memory;
-    let row = row_of(memory, o.fails);
-    write(&mut lent[..cut], 9 * k, &row);
+    write(&mut lent[..cut], 9 * k, &row_of(o.memory, o.fails));
 }
 
-// Writes an outcome behind the known ones, if it is none of them and there is room.
-pub fn add_row(memory: [u32; 8], failed: bool, frame: Frame, lent: &mut [u64]) -> Rows
+// Writes an outcome behind the known ones, if it is none of them. Answers how many are known then; none where it has no room.
+pub fn add_row(memory: [u32; 8], failed: bool, frame: Frame, lent: &mut [u64]) -> Option<usize>
     requires { (9 * frame.known ≤ frame.cut) × (frame.cut ≤ length lent.old) }
-    ensures words { (length lent.new ≡ length lent.old)
-        × (drop frame.cut lent.new ≡ drop frame.cut lent.old) × (9 * result.known ≤ frame.cut) }
-    ensures row { result.full ≡ false → Adds (take frame.cut lent.old) frame.known (record { memory = memory; fails = failed })
-        (take frame.cut lent.new) result.known }
+    ensures words { (length lent.new ≡ length lent.old) × (drop frame.cut lent.new ≡ drop frame.cut lent.old) }
+    ensures within { IfSome result (λ n. 9 * n ≤ frame.cut) }
+    ensures row { IfSome result (λ n. Adds (take frame.cut lent.old) frame.known (record { memory = memory; fails = failed })
+        (take frame.cut lent.new) n) }
 {
     let known = frame.known;
-    let cut = frame.cut;
     if !is_new(memory, failed, lent, frame) {
-        return Rows {
-            known: known,
-            full: false,
-        };
+        return Some(known);
     }
-    if cut - 9 * known < 9 {
-        return Rows {
-            known: known,
-            full: true,
-        };
+    if frame.cut - 9 * known < 9 {
+        return None;
     }
     let o = Outcome {
-        memory: memory,
+        memory,
         fails: failed,
     };
-    note(o, known, cut, lent);
-    Rows {
-        known: known + 1,
-        full: false,
-    }
+    note(o, known, frame.cut, lent);
+    Some(known + 1)
 }

@@ -10,14 +10,23 @@ use crate::known::{Frame, is_known, row_of};
 use states_memory::{Shape, is_marked, mark};
 use table::clear;
 
+// The table behind the known outcomes.
+fn shape(frame: Frame) -> Shape
+    ensures { result.slots ≡ frame.slots }
+{
+    Shape {
+        width: frame.width,
+        slots: frame.slots,
+        deep: 0,
+    }
+}
+
 // Whether an outcome is not among the known ones.
 pub fn is_new(memory: [u32; 8], failed: bool, lent: &[u64], frame: Frame) -> bool
     requires { (9 * frame.known ≤ frame.cut) × (frame.cut ≤ length lent.now) }
     ensures { result ≡ is_new (take frame.cut lent.now) frame.known (record { memory = memory; fails = failed }) }
 {
-    let row = row_of(memory, failed);
-    let cut = frame.cut;
-    !is_known(&lent[..cut], frame.known, &row)
+    !is_known(&lent[..frame.cut], frame.known, &row_of(memory, failed))
 }
 
 // Whether a key is marked: the first words of these, as many as the frame's keys have.
@@ -26,14 +35,7 @@ pub fn is_swept(lent: &[u64], frame: Frame, key: &[u64]) -> bool
     ensures { result ≡ true
         → said frame.slots 0 (drop frame.cut lent.now) (take frame.width key.now) ≡ some [] }
 {
-    let cut = frame.cut;
-    let width = frame.width;
-    let shape = Shape {
-        width: width,
-        slots: frame.slots,
-        deep: 0,
-    };
-    is_marked(&lent[cut..], shape, &key[..width])
+    is_marked(&lent[frame.cut..], shape(frame), &key[..frame.width])
 }
 
 // Marks such a key.
@@ -43,14 +45,7 @@ pub fn sweep(lent: &mut [u64], frame: Frame, key: &[u64])
     ensures honest { Honest frame.slots (take frame.width key.now) [] (drop frame.cut lent.old)
         (drop frame.cut lent.new) }
 {
-    let cut = frame.cut;
-    let width = frame.width;
-    let shape = Shape {
-        width: width,
-        slots: frame.slots,
-        deep: 0,
-    };
-    mark(&mut lent[cut..], shape, &key[..width]);
+    mark(&mut lent[frame.cut..], shape(frame), &key[..frame.width]);
 }
 
 // Takes all marks away: behind `cut` the table says nothing.

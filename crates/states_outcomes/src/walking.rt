@@ -9,115 +9,95 @@ ghost use Rattle.theory_sc_key.specs.Key.{Wide};
 ghost use Rattle.theory_outcomes.specs.Passing.{passing_behind, passing_with};
 ghost use Rattle.states_live.specs.Live.{Live};
 ghost use Rattle.states_key.specs.Stands.{Stands};
-ghost use Rattle.states_walk.specs.FoundOf.{found_of};
+ghost use Rattle.listing_cursor.specs.Steps.{found_of, Short};
 ghost use Rattle.states_outcomes.specs.Rows.{is_new};
 ghost use Rattle.states_outcomes.specs.Swept.{Swept, Kept};
 
 use crate::flagging::outcome_key;
 use crate::known::Frame;
 use crate::sweeping::{is_new, is_swept, sweep};
-use file_rows::Code;
+use listing_cursor::Steps;
 use machine::some_failed;
 use search_rules::some_asleep;
 use search_walk::is_tried;
+use spec_file::STEPS;
 use states_key::Spot;
-use states_walk::{First, advanced, nothing};
-
-// Where nobody may step: the prefix, if its outcome is not known.
-fn ending(x: Spot, failed: bool, lent: &[u64], frame: Frame) -> First
-    requires { (9 * frame.known ≤ frame.cut) × (frame.cut ≤ length lent.now) }
-    ensures { (result.found ≡ is_new (take frame.cut lent.now) frame.known (record { memory = x.memory; fails = failed }))
-        × (result.steps ≡ x.steps) × (result.schedule ≡ x.schedule) }
-{
-    let memory = x.memory;
-    let schedule = x.schedule;
-    First {
-        found: is_new(memory, failed, lent, frame),
-        steps: x.steps,
-        schedule: schedule,
-    }
-}
+use states_walk::{Setup, advance, steps_if};
 
 // Of those with t, which is tried, as the next step.
 #[cycle(new_behind_new_with)]
-fn new_with(
-    code: &Code,
-    lengths: &[usize; 6],
-    class: &[usize; 6],
-    left: &[u8; 192],
-    masks: &[u8; 96],
-    frame: Frame,
-    x: Spot,
-    lent: &mut [u64],
-    t: u8,
-) -> First
+fn new_with(setup: &Setup, frame: Frame, x: &Spot, lent: &mut [u64], t: u8) -> Option<Steps<STEPS>>
     requires { ((threads : ℕ) × (groups : ℕ) × (p : Program) × (v : Schedule)
-        × Stands code.now lengths.now class.now threads groups x p v)
-        × Left code.now lengths.now left.now × Live code.now lengths.now masks.now × (frame.width ≤ 18)
+        × Stands setup.now.program.code setup.now.program.lengths setup.now.program.class threads groups x.now p v)
+        × Left setup.now.program.code setup.now.program.lengths setup.now.left
+        × Live setup.now.program.code setup.now.program.lengths setup.now.masks × (frame.width ≤ 18)
         × (9 * frame.known ≤ frame.cut) × (frame.cut ≤ length lent.old)
-        × ((threads groups : ℕ) (p : Program) (v : Schedule) → Stands code.now lengths.now class.now threads groups x p v
+        × ((threads groups : ℕ) (p : Program) (v : Schedule)
+        → Stands setup.now.program.code setup.now.program.lengths setup.now.program.class threads groups x.now p v
         → tried p v t ≡ true) }
-    ensures words { Kept frame.cut lent.old lent.new × (result.steps ≤ 24) }
+    ensures words { Kept frame.cut lent.old lent.new × Short result }
     ensures first { (threads groups : ℕ) (p : Program) (v : Schedule)
-        → Stands code.now lengths.now class.now threads groups x p v → Wide frame.width p
+        → Stands setup.now.program.code setup.now.program.lengths setup.now.program.class threads groups x.now p v → Wide frame.width p
         → Swept p frame (take frame.cut lent.old) lent.old
-        → (found_of result ≡ head_of (passing_with (is_new (take frame.cut lent.old) frame.known) p x.steps v t))
+        → (found_of result ≡ head_of (passing_with (is_new (take frame.cut lent.old) frame.known) p x.now.place.steps v t))
         × Swept p frame (take frame.cut lent.old) lent.new }
 {
-    let y = advanced(code, lengths, x, t);
-    let threads = y.threads;
-    if some_asleep(code, lengths, left, threads, y.late) {
-        let r = nothing();
-        return r;
+    let mut y = *x;
+    advance(&setup.program, &mut y, t);
+    if some_asleep(&setup.program, &setup.left, y.place.threads, y.place.late) {
+        return None;
     }
-    let r = new_behind(code, lengths, class, left, masks, frame, y, lent);
-    r
+    new_behind(setup, frame, &y, lent)
 }
 
 // Of all behind the steps taken.
 #[cycle(new_behind_new_with)]
 pub(crate) fn new_behind(
-    code: &Code,
-    lengths: &[usize; 6],
-    class: &[usize; 6],
-    left: &[u8; 192],
-    masks: &[u8; 96],
+    setup: &Setup,
     frame: Frame,
-    x: Spot,
+    x: &Spot,
     lent: &mut [u64],
-) -> First
+) -> Option<Steps<STEPS>>
     requires { ((threads : ℕ) × (groups : ℕ) × (p : Program) × (v : Schedule)
-        × Stands code.now lengths.now class.now threads groups x p v)
-        × Left code.now lengths.now left.now × Live code.now lengths.now masks.now × (frame.width ≤ 18)
+        × Stands setup.now.program.code setup.now.program.lengths setup.now.program.class threads groups x.now p v)
+        × Left setup.now.program.code setup.now.program.lengths setup.now.left
+        × Live setup.now.program.code setup.now.program.lengths setup.now.masks × (frame.width ≤ 18)
         × (9 * frame.known ≤ frame.cut) × (frame.cut ≤ length lent.old) }
-    ensures words { Kept frame.cut lent.old lent.new × (result.steps ≤ 24) }
+    ensures words { Kept frame.cut lent.old lent.new × Short result }
     ensures first { (threads groups : ℕ) (p : Program) (v : Schedule)
-        → Stands code.now lengths.now class.now threads groups x p v → Wide frame.width p
+        → Stands setup.now.program.code setup.now.program.lengths setup.now.program.class threads groups x.now p v → Wide frame.width p
         → Swept p frame (take frame.cut lent.old) lent.old
-        → (found_of result ≡ head_of (passing_behind (is_new (take frame.cut lent.old) frame.known) p x.steps v))
+        → (found_of result ≡ head_of (passing_behind (is_new (take frame.cut lent.old) frame.known) p x.now.place.steps v))
         × Swept p frame (take frame.cut lent.old) lent.new }
 {
-    let failed = some_failed(x.threads);
-    if x.live == 0 {
-        let r = ending(x, failed, lent, frame);
-        return r;
+    let failed = some_failed(x.place.threads);
+    if x.place.live == 0 {
+        let new = is_new(x.place.memory, failed, lent, frame);
+        return steps_if(new, x.place.schedule, x.place.steps);
     }
-    let k = outcome_key(lengths, class, masks, x, failed);
+    let k = outcome_key(
+        &setup.program.lengths,
+        &setup.program.class,
+        &setup.masks,
+        x,
+        failed,
+    );
     if is_swept(lent, frame, &k) {
-        let r = nothing();
-        return r;
+        return None;
     }
-    let mut t = 0;
-    while t < 6 {
-        if is_tried(class, &x.words, x.live, x.late, t) {
-            let r = new_with(code, lengths, class, left, masks, frame, x, lent, t);
-            if r.found {
-                return r;
+    for t in 0..6 {
+        if is_tried(
+            &setup.program.class,
+            &x.place.words,
+            x.place.live,
+            x.place.late,
+            t,
+        ) {
+            if let Some(found) = new_with(setup, frame, x, lent, t) {
+                return Some(found);
             }
         }
-        t += 1;
     }
     sweep(lent, frame, &k);
-    let r = nothing();
-    r
+    None
 }

@@ -5,15 +5,14 @@ use mathlib.Core.Bool.{Bool, true, false, cond}
 use mathlib.Core.Option.{Option, none, some}
 use mathlib.Core.List.{List, [], ◌∷◌, ◌++◌}
 use native.Mathlib.Omega.{arith}
-use lib.ListN.{length, take, length-append}
+use lib.ListN.{length, length-append}
 use borrow.Author.Tests.{eqb-false, not-true}
 use Rattle.spec_file.specs.Program.{Program}
 use Rattle.spec_file.specs.WellFormed.{WellFormed}
 use Rattle.spec_schedules.specs.Lists.{head_of}
 use Rattle.spec_schedules.specs.Order.{Schedule}
 use Rattle.spec_schedules.specs.System.{Allowed, ended}
-use Rattle.spec_model.specs.Model.{failing}
-use Rattle.spec_sc.specs.State.{State, SC, enabled, start, fails}
+use Rattle.spec_sc.specs.State.{State, SC, start, fails}
 use Rattle.spec_sc.specs.Graph.{end_of}
 use Rattle.spec_sc.specs.Sequential.{sc}
 use Rattle.spec_sc.proofs.Lawful.{lawful, start_24}
@@ -21,6 +20,8 @@ use Rattle.theory_search.specs.ModelSearch.{looked_for}
 use Rattle.theory_search.proofs.Found.{past_none, low_none}
 use Rattle.theory_sc.specs.Search.{given_up, found_behind, found_with}
 use Rattle.theory_sc.proofs.Search.{up_asleep, with_given_up, with_live, behind_end, behind_passed, behind_branches}
+use Rattle.search_place.specs.Reached.{Reached as At}
+use Rattle.search_place.specs.declared.place.Place.{Place}
 use Rattle.search_place.proofs.ReachedStep.{reached_open}
 use Rattle.search_walk.specs.Tried.{tried}
 use Rattle.search_walk.proofs.TriedSteps.{tried_enabled, untried_none}
@@ -34,21 +35,12 @@ use Rattle.theory_sc_key.specs.View.{breaks}
 use Rattle.theory_sc_key.specs.Key.{word_key, Wide}
 use Rattle.theory_sc_key.proofs.View.{breaks_law}
 use Rattle.theory_sc_key.proofs.Decides.{decides, as_wide}
-use Rattle.states_key.specs.Stands.{place_of, Stands}
+use Rattle.states_key.specs.Stands.{Stands}
 use Rattle.states_key.specs.declared.spot.Spot.{Spot}
 use Rattle.states_walk.specs.Known.{Marked}
-use Rattle.states_walk.specs.FoundOf.{found_of}
-use Rattle.states_walk.specs.declared.seeking.First.{First}
+use Rattle.listing_cursor.specs.Steps.{steps_of}
+use Rattle.listing_cursor.specs.declared.steps.Steps.{Steps}
 use Rattle.states_walk.proofs.Numbered.{Asleep, awake_cut, Cases}
-
--- ---- an answer
-pub found_none : (r : First) → r.found ≡ false → none ≡ found_of r
-unfolding found_of
-found_none r e = sym (rw e refl)
-
-pub found_some : (r : First) → r.found ≡ true → some (take r.steps r.schedule) ≡ found_of r
-unfolding found_of
-found_some r e = sym (rw e refl)
 
 -- the head of a list of one, or of none
 pub head_if : (b : Bool) (s : Schedule) → cond b (some s) none ≡ head_of (cond b (s ∷ []) [])
@@ -70,19 +62,16 @@ module _ (p : Program) (steps : ℕ) (v : Schedule) (t : ℕ) where
   untried_first e = sym (head_nil (found_with true p steps none v t) (untried_none p v t true steps none e))
 
 -- one step more
-pub one_more : (code lengths class : List ℕ) (threads groups : ℕ) (x y : Spot) (p : Program) (v : Schedule) (t : ℕ) → Stands code lengths class threads groups x p v
-    → Stands code lengths class threads groups y p (v ++ (t ∷ [])) → y.steps ≡ x.steps + 1
-one_more code lengths class threads groups x y p v t at next = omega (arith, next.reached.counted, at.reached.counted, length-append v (t ∷ []))
+pub one_more : (code lengths class : List ℕ) (threads groups : ℕ) (x y : Place) (p : Program) (v : Schedule) (t : ℕ) → At code lengths class threads groups x p v
+    → At code lengths class threads groups y p (v ++ (t ∷ [])) → y.steps ≡ x.steps + 1
+one_more code lengths class threads groups x y p v t at next = omega (arith, next.counted, at.counted, length-append v (t ∷ []))
 
 -- ---- where nobody may step: the prefix, if it has failed
-pub ended_first : (p : Program) (steps : ℕ) (v : Schedule) → ended SC (end_of p v) ≡ true → (r : First) → r.found ≡ fails (end_of p v) → take r.steps r.schedule ≡ v
-    → found_of r ≡ head_of (found_behind true p steps none v)
+pub ended_first : (p : Program) (steps : ℕ) (v : Schedule) → ended SC (end_of p v) ≡ true → (b : Bool) → b ≡ fails (end_of p v) → (s : Schedule) → s ≡ v
+    → cond b (some s) none ≡ head_of (found_behind true p steps none v)
 unfolding head_of
-ended_first p steps v e r q s = go (fails (end_of p v)) refl
-  where
-    go : (b : Bool) → fails (end_of p v) ≡ b → found_of r ≡ head_of (found_behind true p steps none v)
-    go true f = sym (found_some r (q ∙ f)) ∙ ap some s ∙ sym (ap head_of (behind_end true p steps v true e f refl))
-    go false f = sym (found_none r (q ∙ f)) ∙ sym (ap head_of (behind_passed true p steps v false e f refl))
+ended_first p steps v e true f s q = ap some q ∙ sym (ap head_of (behind_end true p steps v true e (sym f) refl))
+ended_first p steps v e false f s q = sym (ap head_of (behind_passed true p steps v false e (sym f) refl))
 
 -- ---- with marks
 module _ (p : Program) (w : WellFormed p) (n slots : ℕ) (wide : Wide n p) (v : Schedule) (a : Allowed SC (start p) v) (steps : ℕ) (counted : length v ≡ steps) (fine : fails (end_of p v) ≡ false) where
@@ -116,7 +105,7 @@ module _ (p : Program) (w : WellFormed p) (n slots : ℕ) (wide : Wide n p) (v :
 abbrev pub Left : (code lengths class : List ℕ) (n slots : ℕ) (x : Spot) (table₀ table : List ℕ) (t : ℕ) → Type 0
 Left code lengths class n slots x table₀ table t =
     (c : Cases code lengths class x) → Wide n c.2 → Marked c.2 n slots table₀
-    → Seeks (λ d. found_with true c.2 x.steps none c.3 d) 6 (found_behind true c.2 x.steps none c.3) t × Marked c.2 n slots table
+    → Seeks (λ d. found_with true c.2 x.place.steps none c.3 d) 6 (found_behind true c.2 x.place.steps none c.3) t × Marked c.2 n slots table
 
 module _ (code lengths class : List ℕ) (n slots : ℕ) (x : Spot) (table₀ : List ℕ) where
   abbrev Still : (table : List ℕ) (t : ℕ) → Type 0
@@ -127,36 +116,35 @@ module _ (code lengths class : List ℕ) (n slots : ℕ) (x : Spot) (table₀ : 
       let p = c.2 in
       let v = c.3 in
       let going = e c.0 c.1 p v c.4 in (
-        seek_start (λ d. found_with true p x.steps none v d) 6 (found_behind true p x.steps none v) _ low_none
-            (behind_branches true p x.steps v none going (reached_open code lengths class c.0 c.1 (place_of x) p v c.4.reached going)),
+        seek_start (λ d. found_with true p x.place.steps none v d) 6 (found_behind true p x.place.steps none v) _ low_none
+            (behind_branches true p x.place.steps v none going (reached_open code lengths class c.0 c.1 x.place p v c.4.reached going)),
         marks,
       )
 
   -- with t, which is tried: found
-  pub turn_found : (table table' : List ℕ) (t : ℕ) → t < 6 → Still table t → (r : First)
-      → ((threads groups : ℕ) (p : Program) (v : Schedule) → Stands code lengths class threads groups x p v → Wide n p → Marked p n slots table → (found_of r ≡ head_of (found_with true p x.steps none v t)) × Marked p n slots table')
-      → r.found ≡ true → (c : Cases code lengths class x) → Wide n c.2 → Marked c.2 n slots table₀
-      → (found_of r ≡ head_of (found_behind true c.2 x.steps none c.3)) × Marked c.2 n slots table'
-  turn_found table table' t h still r visited f c wide marks =
+  pub turn_found : (table table' : List ℕ) (t : ℕ) → t < 6 → Still table t → (s : Steps 24)
+      → ((threads groups : ℕ) (p : Program) (v : Schedule) → Stands code lengths class threads groups x p v → Wide n p → Marked p n slots table
+      → (some (steps_of s) ≡ head_of (found_with true p x.place.steps none v t)) × Marked p n slots table')
+      → (c : Cases code lengths class x) → Wide n c.2 → Marked c.2 n slots table₀
+      → (some (steps_of s) ≡ head_of (found_behind true c.2 x.place.steps none c.3)) × Marked c.2 n slots table'
+  turn_found table table' t h still s visited c wide marks =
       let p = c.2 in
       let v = c.3 in
       let before = still c wide marks in
-      let q = visited c.0 c.1 p v c.4 wide before.1 in (
-        sym (found_some r f)
-            ∙ seek_found (λ d. found_with true p x.steps none v d) 6 (found_behind true p x.steps none v) t h before.0 (take r.steps r.schedule) (found_some r f ∙ q.0),
-        q.1,
-      )
+      let q = visited c.0 c.1 p v c.4 wide before.1 in
+      (seek_found (λ d. found_with true p x.place.steps none v d) 6 (found_behind true p x.place.steps none v) t h before.0 (steps_of s) q.0, q.1)
 
   -- not found
-  pub turn_none : (table table' behind : List ℕ) (t : ℕ) → t < 6 → Still table t → (r : First)
-      → ((threads groups : ℕ) (p : Program) (v : Schedule) → Stands code lengths class threads groups x p v → Wide n p → Marked p n slots table → (found_of r ≡ head_of (found_with true p x.steps none v t)) × Marked p n slots table')
-      → r.found ≡ false → behind ≡ table' → Still behind (t + 1)
-  turn_none table table' behind t h still r visited f eb c wide marks =
+  pub turn_none : (table table' behind : List ℕ) (t : ℕ) → t < 6 → Still table t
+      → ((threads groups : ℕ) (p : Program) (v : Schedule) → Stands code lengths class threads groups x p v → Wide n p → Marked p n slots table
+      → (none ≡ head_of (found_with true p x.place.steps none v t)) × Marked p n slots table')
+      → behind ≡ table' → Still behind (t + 1)
+  turn_none table table' behind t h still visited eb c wide marks =
       let p = c.2 in
       let v = c.3 in
       let before = still c wide marks in
       let q = visited c.0 c.1 p v c.4 wide before.1 in (
-        seek_next (λ d. found_with true p x.steps none v d) 6 (found_behind true p x.steps none v) t h before.0 (found_none r f ∙ q.0),
+        seek_next (λ d. found_with true p x.place.steps none v d) 6 (found_behind true p x.place.steps none v) t h before.0 q.0,
         subst (Marked p n slots) (sym eb) q.1,
       )
 
@@ -167,13 +155,13 @@ module _ (code lengths class : List ℕ) (n slots : ℕ) (x : Spot) (table₀ : 
       let p = c.2 in
       let v = c.3 in
       let before = still c wide marks in (
-        seek_next (λ d. found_with true p x.steps none v d) 6 (found_behind true p x.steps none v) t h before.0 (untried_first p x.steps v t (not-tried c.0 c.1 p v c.4)),
+        seek_next (λ d. found_with true p x.place.steps none v d) 6 (found_behind true p x.place.steps none v) t h before.0 (untried_first p x.place.steps v t (not-tried c.0 c.1 p v c.4)),
         subst (Marked p n slots) (sym eb) before.1,
       )
 
   -- no step is left
   pub seeks_over : (table : List ℕ) (t : ℕ) → 6 ≤ t → Still table t → (c : Cases code lengths class x) → Wide n c.2 → Marked c.2 n slots table₀
-      → (none ≡ head_of (found_behind true c.2 x.steps none c.3)) × Marked c.2 n slots table
+      → (none ≡ head_of (found_behind true c.2 x.place.steps none c.3)) × Marked c.2 n slots table
   seeks_over table t h still c wide marks =
       let before = still c wide marks in
-      (seek_over (λ d. found_with true c.2 x.steps none c.3 d) 6 (found_behind true c.2 x.steps none c.3) t h before.0, before.1)
+      (seek_over (λ d. found_with true c.2 x.place.steps none c.3 d) 6 (found_behind true c.2 x.place.steps none c.3) t h before.0, before.1)

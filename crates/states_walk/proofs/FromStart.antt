@@ -1,16 +1,12 @@
 -- From the start, with a table that says nothing: the numbers are those of the list, and the first that is found is the list's first failing member.
-use Prim.Native.Nat.{ℕ, ◌%◌, ◌^◌, ◌<◌, ◌≤◌}
-use mathlib.Core.Path.{◌≡◌, refl, sym, ap, ◌∙◌}
-use mathlib.Core.Bool.{Bool, true, false, cond}
-use mathlib.Core.Option.{Option, none, some, none-ne-some}
+use Prim.Native.Nat.{ℕ, ◌%◌, ◌^◌}
+use mathlib.Core.Path.{◌≡◌, sym, ap, ◌∙◌}
+use mathlib.Core.Bool.{Bool, true, cond}
+use mathlib.Core.Option.{none, some, none-ne-some}
 use mathlib.Core.List.{List, []}
-use lib.ListN.{length, get_or}
 use Rattle.spec_file.specs.Program.{Program}
 use Rattle.spec_file.specs.WellFormed.{WellFormed}
-use Rattle.file_decoder.specs.Compiled.{program_of}
-use Rattle.file_decoder.specs.declared.file.Compiled.{Compiled}
 use Rattle.spec_schedules.specs.Lists.{head_of}
-use Rattle.spec_schedules.specs.Order.{Schedule}
 use Rattle.spec_schedules.proofs.After.{after_none}
 use Rattle.spec_schedules.proofs.Runs.{run_nil}
 use Rattle.spec_model.specs.Answers.{count_of}
@@ -22,7 +18,7 @@ use Rattle.spec_sc.proofs.Lawful.{lawful}
 use Rattle.theory_sc.specs.Search.{given_up, found_behind, found}
 use Rattle.theory_sc.proofs.Search.{found_exactly}
 use Rattle.theory_states.specs.Positions.{Reached}
-use Rattle.theory_states.specs.Numbers.{Numbers, charged, numbers}
+use Rattle.theory_states.specs.Numbers.{charged, numbers}
 use Rattle.theory_states.specs.Wrapped.{Wrapped}
 use Rattle.theory_states.proofs.Wrapped.{entries_none, clean_none, charged_wrapped}
 use Rattle.theory_sc_key.specs.View.{breaks}
@@ -30,8 +26,6 @@ use Rattle.theory_sc_key.specs.Key.{word_key}
 use Rattle.theory_sc_key.proofs.Listed.{sc_start_listed, sc_start_failing}
 use Rattle.table.specs.Said.{said_at}
 use Rattle.table.specs.Places.{place_of, said}
-use Rattle.search_place.specs.ClassGroups.{groups_of, Lined}
-use Rattle.search_place.proofs.ClassGroups.{program_groups}
 use Rattle.states_walk.specs.Known.{Numbered, Marked, numbers_at}
 
 -- ---- a table that says nothing

@@ -1,7 +1,7 @@
 -- The last running thread runs to its end: one schedule is listed behind it, which fails if a step of the run does.
 use Prim.Native.Nat.{ℕ, zero, suc, ◌+◌, ◌<◌, ◌≤◌, ◌%◌, ◌^◌}
 use mathlib.Core.Path.{◌≡◌, refl, sym, ap, ap₂, subst, ◌∙◌}
-use mathlib.Core.Logic.{◌≢◌, ◌⊎◌, inl, inr}
+use mathlib.Core.Logic.{◌≢◌, inl, inr}
 use mathlib.Core.Bool.{Bool, true, false, cond, ◌||◌, true≢false}
 use mathlib.Core.Option.{none}
 use mathlib.Core.List.{List, [], ◌∷◌, ◌++◌}
@@ -19,7 +19,6 @@ use Rattle.spec_sc.specs.Graph.{end_of}
 use Rattle.spec_sc.proofs.Lawful.{lawful}
 use Rattle.spec_sc.proofs.Steps.{enabled_small}
 use Rattle.machine.specs.declared.stepping.Moved.{Moved}
-use Rattle.machine.specs.Held.{idle}
 use Rattle.machine.proofs.HeldAsking.{held_ended}
 use Rattle.theory_sc.specs.LateSet.{late_set}
 use Rattle.theory_sc.specs.Sleepers.{sleepers}
@@ -84,40 +83,39 @@ alone_numbers p w v a t alone z =
     ∙ by_live SC 6 (given_up p) breaks (λ s σ. numbers SC 6 (given_up p) breaks s σ) v (end_of p v) t alone.live (last_goes_on p w v a t alone z)
     ∙ ap (λ (τ : State). charged (breaks (end_of p v) t) (numbers SC 6 (given_up p) breaks (v ++ (t ∷ [])) τ)) (sym (run_snoc SC (start p) v t))
 
--- a runner of these parts
-abbrev pub parts : ThreadState → List ℕ → List ℕ → ℕ → Bool → Runner
-parts k memory schedule n b = record { thread = k; memory = memory; schedule = schedule; steps = n; failed = b }
+-- a runner as it stands, with what had failed before its run
+abbrev pub from : Bool → Runner → Runner
+from before r = record { thread = r.thread; memory = r.memory; schedule = r.schedule; steps = r.steps; failed = before }
 
--- thread t behind a prefix that is v with steps of t behind it; b: something has failed, or had before
-pub record Ran (code lengths class : List ℕ) (threads groups : ℕ) (x : Place) (p : Program) (v : Schedule) (t : ℕ) (before : Bool) (k : ThreadState) (memory schedule : List ℕ) (n : ℕ)
-    (b : Bool) : Type 0 where
-  pub run : Running code lengths class threads groups x p v t (parts k memory schedule n before)
+-- thread t behind a prefix that is v with steps of t behind it, of which some failed, or something had failed before, if the runner says so
+pub record Ran (code lengths class : List ℕ) (threads groups : ℕ) (x : Place) (p : Program) (v : Schedule) (t : ℕ) (before : Bool) (now : Runner) : Type 0 where
+  pub run : Running code lengths class threads groups x p v t (from before now)
   pub fell : Bool
-  pub told : b ≡ (before || fell)
+  pub told : now.failed ≡ (before || fell)
   pub fails_by : Settled p v t false → fails (end_of p run.prefix) ≡ (fails (end_of p v) || fell)
   pub counts : Settled p v t false → numbers_at p v ≡ charged fell (numbers_at p run.prefix)
 
 module _ (code lengths class : List ℕ) (threads groups : ℕ) (x : Place) (p : Program) (v : Schedule) (t : ℕ) (before : Bool) where
-  pub ran_start : (k : ThreadState) (memory schedule : List ℕ) (n : ℕ) → Reached code lengths class threads groups x p v → RunnerOf x t (parts k memory schedule n before)
-      → Ran code lengths class threads groups x p v t before k memory schedule n before
-  ran_start k memory schedule n reached held =
-      let q = starts_at code lengths class threads groups x p v t (parts k memory schedule n before) reached held in record {
-        run = running_start code lengths class threads groups x p v t (parts k memory schedule n before) reached held;
+  pub ran_start : (now : Runner) → before ≡ now.failed → Reached code lengths class threads groups x p v → RunnerOf x t now → Ran code lengths class threads groups x p v t before now
+  ran_start now e reached held =
+      let own : RunnerOf x t (from before now) = record { thread = held.thread; memory = held.memory; schedule = held.schedule; steps = held.steps } in
+      let q = starts_at code lengths class threads groups x p v t (from before now) reached own in record {
+        run = running_start code lengths class threads groups x p v t (from before now) reached own;
         fell = false;
-        told = or_none before;
+        told = sym e ∙ or_none before;
         fails_by = λ s. ap (λ (u : Schedule). fails (end_of p u)) q ∙ or_none (fails (end_of p v));
         counts = λ s. sym (ap (numbers_at p) q);
       }
 
-  module _ (k : ThreadState) (memory schedule : List ℕ) (n : ℕ) (b : Bool) (ran : Ran code lengths class threads groups x p v t before k memory schedule n b) (six : t < 6) where
+  module _ (now : Runner) (ran : Ran code lengths class threads groups x p v t before now) (six : t < 6) where
     abbrev r : Runner
-    r = parts k memory schedule n before
+    r = from before now
 
     abbrev w : Schedule
     w = ran.run.prefix
 
     -- ---- one step more
-    module _ (left : k.at < get_or lengths t 0) (size : length schedule ≡ 24) (a : Moved) (moves : Moves code lengths k memory t a) where
+    module _ (left : now.thread.at < get_or lengths t 0) (size : length now.schedule ≡ 24) (a : Moved) (moves : Moves code lengths now.thread now.memory t a) where
       ok : enabled (end_of p ran.run.prefix) t ≡ true
       ok = enabled_again code lengths class threads groups ran.run.at p w ran.run.reached t six (subst (λ (h : ThreadState). h.at < get_or lengths t 0) (sym ran.run.held.thread) left)
 
@@ -128,7 +126,11 @@ module _ (code lengths class : List ℕ) (threads groups : ℕ) (x : Place) (p :
           go (inl e) = absurd (true≢false (sym e ∙ not_ended SC lawful (end_of p w) t ok))
           go (inr q) = (q.1, q.2)
 
-      next : Running code lengths class threads groups x p v t (parts a.thread a.memory (set schedule n t) (n + 1) before)
+      -- the runner behind it
+      abbrev pub went : Bool → Runner
+      went b = record { thread = a.thread; memory = a.memory; schedule = set now.schedule now.steps t; steps = now.steps + 1; failed = b }
+
+      next : Running code lengths class threads groups x p v t (went before)
       next = running_step code lengths class threads groups x p v t r ran.run six left size a moves
 
       to : next.prefix ≡ ran.run.prefix ++ (t ∷ [])
@@ -141,8 +143,8 @@ module _ (code lengths class : List ℕ) (threads groups : ℕ) (x : Place) (p :
           sym (ap (λ (h : ThreadState). h.failed) next.held.thread)
           ∙ reached_failed p w t code lengths class threads groups next.at (subst (λ (u : Schedule). Reached code lengths class threads groups next.at p u) to next.reached) ok t refl
 
-      pub ran_step : (b' : Bool) → b' ≡ (b || a.thread.failed) → Ran code lengths class threads groups x p v t before a.thread a.memory (set schedule n t) (n + 1) b'
-      ran_step b' e = record {
+      pub ran_step : (b : Bool) → b ≡ (now.failed || a.thread.failed) → Ran code lengths class threads groups x p v t before (went b)
+      ran_step b e = record {
         run = next;
         fell = ran.fell || breaks (end_of p w) t;
         told = e ∙ ap₂ (λ (c d : Bool). c || d) ran.told fell_now ∙ or_apart before ran.fell (breaks (end_of p w) t);
@@ -157,7 +159,7 @@ module _ (code lengths class : List ℕ) (threads groups : ℕ) (x : Place) (p :
       }
 
     -- ---- at its end
-    module _ (over : get_or lengths t 0 ≤ k.at) (s : Settled p v t false) where
+    module _ (over : get_or lengths t 0 ≤ now.thread.at) (s : Settled p v t false) where
       run_over : ended SC (end_of p ran.run.prefix) ≡ true
       run_over = go (ran.run.settled s)
         where
@@ -167,20 +169,20 @@ module _ (code lengths class : List ℕ) (threads groups : ℕ) (x : Place) (p :
               absurd (true≢false (sym q.1.live
               ∙ held_ended code lengths (machine_of ran.run.at ran.run.reached.last) (end_of p w) ran.run.reached.holds t six (subst (λ (h : ThreadState). get_or lengths t 0 ≤ h.at) (sym ran.run.held.thread) over)))
 
-      pub ran_numbers : Wrapped (charged before (numbers_at p v)) 1 (cond b 1 0)
+      pub ran_numbers : Wrapped (charged before (numbers_at p v)) 1 (cond now.failed 1 0)
       ran_numbers =
           let q = ap (charged before) (ran.counts s ∙ ap (charged ran.fell) (numbers_ended SC 6 (given_up p) breaks lawful w (end_of p w) run_over))
           ∙ charged_twice before ran.fell one ∙ ap (λ (c : Bool). charged c one) (sym ran.told) in
-          (ap (λ (m : Numbers). m.listed % 2 ^ 64) (sym q), small b ∙ ap (λ (m : Numbers). m.failing % 2 ^ 64) (sym q))
+          (ap (λ (m : Numbers). m.listed % 2 ^ 64) (sym q), small now.failed ∙ ap (λ (m : Numbers). m.failing % 2 ^ 64) (sym q))
         where
           small : (c : Bool) → cond c 1 0 ≡ (charged c one).failing % 2 ^ 64
           small true = refl
           small false = refl
 
       -- the run's schedule is found if something has failed
-      pub ran_found : before ≡ fails (end_of p v) → found_behind true p x.steps none v ≡ cond b (take n schedule ∷ []) []
-      ran_found e = ran.run.found true s ∙ go b (ran.fails_by s ∙ ap (λ (c : Bool). c || ran.fell) (sym e) ∙ sym ran.told)
+      pub ran_found : before ≡ fails (end_of p v) → found_behind true p x.steps none v ≡ cond now.failed (take now.steps now.schedule ∷ []) []
+      ran_found e = ran.run.found true s ∙ go now.failed (ran.fails_by s ∙ ap (λ (c : Bool). c || ran.fell) (sym e) ∙ sym ran.told)
         where
-          go : (c : Bool) → fails (end_of p w) ≡ c → found_behind true p ran.run.at.steps none w ≡ cond c (take n schedule ∷ []) []
+          go : (c : Bool) → fails (end_of p w) ≡ c → found_behind true p ran.run.at.steps none w ≡ cond c (take now.steps now.schedule ∷ []) []
           go true f = behind_end true p ran.run.at.steps w true run_over f refl ∙ ap (λ (u : Schedule). u ∷ []) (sym (running_row code lengths class threads groups x p v t r ran.run))
           go false f = behind_passed true p ran.run.at.steps w false run_over f refl

@@ -1,7 +1,7 @@
 -- The numbers behind a prefix as the code adds them up: with one next step, over the next steps in turn, and with a table.
 use Prim.Native.Nat.{ℕ, ◌+◌, ◌-◌, ◌<◌, ◌≤◌, ◌%◌, ◌^◌}
 use mathlib.Core.Path.{◌≡◌, refl, sym, ap, ap₂, subst, ◌∙◌}
-use mathlib.Core.Logic.{◌≢◌, ⊎_elim}
+use mathlib.Core.Logic.{⊎_elim}
 use mathlib.Core.Bool.{Bool, true, false, not, cond}
 use mathlib.Core.Option.{some}
 use mathlib.Core.List.{List, [], ◌∷◌, ◌++◌}
@@ -14,8 +14,7 @@ use Rattle.spec_file.specs.WellFormed.{WellFormed}
 use Rattle.spec_schedules.specs.Order.{Schedule}
 use Rattle.spec_schedules.specs.System.{Allowed, ended}
 use Rattle.spec_schedules.proofs.Runs.{run_snoc}
-use Rattle.spec_sc.specs.Local.{Local}
-use Rattle.spec_sc.specs.State.{State, Thread, SC, enabled, start, step, thread_of, advanced}
+use Rattle.spec_sc.specs.State.{State, Thread, SC, enabled, start, thread_of, advanced}
 use Rattle.spec_sc.specs.Graph.{end_of}
 use Rattle.spec_sc.proofs.Lawful.{lawful}
 use Rattle.spec_sc.proofs.Steps.{enabled_small, enabled_range, thread_own}
@@ -32,14 +31,14 @@ use Rattle.search_walk.proofs.TriedSteps.{tried_enabled, tried_on_time, tried_al
 use Rattle.table.specs.Places.{said}
 use Rattle.table.specs.Answers.{Honest}
 use Rattle.theory_states.specs.Positions.{Reached}
-use Rattle.theory_states.specs.Numbers.{Numbers, nothing, one, charged, sum_range, numbers}
-use Rattle.theory_states.specs.Wrapped.{entry_of, Wrapped, Completes}
+use Rattle.theory_states.specs.Numbers.{Numbers, nothing, charged, sum_range, numbers}
+use Rattle.theory_states.specs.Wrapped.{Wrapped, Completes}
 use Rattle.theory_states.proofs.Numbers.{by_not, by_cut, by_live, numbers_ended, numbers_branches}
 use Rattle.theory_states.proofs.Wrapped.{charged_wrapped, rest_start, rest_more, rest_same, rest_over, entries_put}
 use Rattle.theory_sc_key.specs.View.{breaks}
 use Rattle.theory_sc_key.specs.Key.{word_key, Wide}
 use Rattle.theory_sc_key.proofs.Decides.{decides, as_wide}
-use Rattle.states_key.specs.Stands.{place_of, Stands}
+use Rattle.states_key.specs.Stands.{Stands}
 use Rattle.states_key.specs.declared.spot.Spot.{Spot}
 use Rattle.states_walk.specs.Known.{Numbered, numbers_at, numbers_by}
 
@@ -98,12 +97,12 @@ module _ (p : Program) (v : Schedule) (t : ℕ) where
   -- behind its step, at the spot y
   module _ (code lengths class : List ℕ) (threads groups : ℕ) (y : Spot) (next : Stands code lengths class threads groups y p (v ++ (t ∷ []))) (ok : enabled (end_of p v) t ≡ true) where
     -- the step failed exactly if its thread has
-    pub step_failed : (u : ℕ) → u ≡ t → (get_or y.threads u idle).failed ≡ breaks (end_of p v) t
-    step_failed u e = reached_failed code lengths class threads groups (place_of y) next.reached ok u e
+    pub step_failed : (u : ℕ) → u ≡ t → (get_or y.place.threads u idle).failed ≡ breaks (end_of p v) t
+    step_failed u e = reached_failed code lengths class threads groups y.place next.reached ok u e
 
     -- one step fewer is left
-    pub step_less : (x : Spot) → Stands code lengths class threads groups x p v → 24 - y.steps < 24 - x.steps
-    step_less x at = reached_less code lengths class threads groups (place_of y) next.reached ok (place_of x) at.reached
+    pub step_less : (x : Spot) → Stands code lengths class threads groups x p v → 24 - y.place.steps < 24 - x.place.steps
+    step_less x at = reached_less code lengths class threads groups y.place next.reached ok x.place at.reached
 
 -- ---- with a table
 module _ (p : Program) (w : WellFormed p) (n slots : ℕ) (wide : Wide n p) (v : Schedule) (a : Allowed SC (start p) v) where

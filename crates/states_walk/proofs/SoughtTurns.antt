@@ -1,10 +1,9 @@
 -- The first failing schedule behind a prefix as the code looks for it without marks: over the next steps in turn.
 use Prim.Native.Nat.{ℕ, ◌+◌, ◌<◌, ◌≤◌}
-use mathlib.Core.Path.{◌≡◌, sym, ◌∙◌}
+use mathlib.Core.Path.{◌≡◌}
 use mathlib.Core.Bool.{true, false}
-use mathlib.Core.Option.{none}
+use mathlib.Core.Option.{none, some}
 use mathlib.Core.List.{List}
-use lib.ListN.{take}
 use Rattle.theory_search.proofs.Found.{low_none}
 use Rattle.theory_sc.proofs.Search.{behind_branches}
 use Rattle.search_place.proofs.ReachedStep.{reached_open}
@@ -19,10 +18,10 @@ use Rattle.theory_sc.specs.Search.{found_behind, found_with}
 use Rattle.search_place.specs.Reached.{Reached}
 use Rattle.search_place.specs.declared.place.Place.{Place}
 use Rattle.search_walk.specs.Tried.{tried}
-use Rattle.states_walk.specs.FoundOf.{found_of}
-use Rattle.states_walk.specs.declared.seeking.First.{First}
+use Rattle.listing_cursor.specs.Steps.{steps_of}
+use Rattle.listing_cursor.specs.declared.steps.Steps.{Steps}
 use Rattle.states_walk.proofs.Turns.{Cases}
-use Rattle.states_walk.proofs.FirstFound.{found_none, found_some, untried_first}
+use Rattle.states_walk.proofs.FirstFound.{untried_first}
 
 -- what is left to the loop: none with a step before t is the first
 abbrev pub Sought : (code lengths class : List ℕ) (x : Place) (t : ℕ) → Type 0
@@ -39,23 +38,22 @@ module _ (code lengths class : List ℕ) (x : Place) where
       (behind_branches true p x.steps v none going (reached_open code lengths class c.0 c.1 x p v c.4 going))
 
   -- with t, which is tried: found
-  pub sought_found : (t : ℕ) → t < 6 → Sought code lengths class x t → (r : First)
-      → ((threads groups : ℕ) (p : Program) (v : Schedule) → Reached code lengths class threads groups x p v → found_of r ≡ head_of (found_with true p x.steps none v t))
-      → r.found ≡ true → (c : Cases code lengths class x) → found_of r ≡ head_of (found_behind true c.2 x.steps none c.3)
-  sought_found t h left r visited f c =
+  pub sought_found : (t : ℕ) → t < 6 → Sought code lengths class x t → (s : Steps 24)
+      → ((threads groups : ℕ) (p : Program) (v : Schedule) → Reached code lengths class threads groups x p v → some (steps_of s) ≡ head_of (found_with true p x.steps none v t))
+      → (c : Cases code lengths class x) → some (steps_of s) ≡ head_of (found_behind true c.2 x.steps none c.3)
+  sought_found t h left s visited c =
       let p = c.2 in
       let v = c.3 in
-      sym (found_some r f)
-      ∙ seek_found (λ d. found_with true p x.steps none v d) 6 (found_behind true p x.steps none v) t h (left c) (take r.steps r.schedule) (found_some r f ∙ visited c.0 c.1 p v c.4)
+      seek_found (λ d. found_with true p x.steps none v d) 6 (found_behind true p x.steps none v) t h (left c) (steps_of s) (visited c.0 c.1 p v c.4)
 
   -- not found
-  pub sought_none : (t : ℕ) → t < 6 → Sought code lengths class x t → (r : First)
-      → ((threads groups : ℕ) (p : Program) (v : Schedule) → Reached code lengths class threads groups x p v → found_of r ≡ head_of (found_with true p x.steps none v t))
-      → r.found ≡ false → Sought code lengths class x (t + 1)
-  sought_none t h left r visited f c =
+  pub sought_none : (t : ℕ) → t < 6 → Sought code lengths class x t
+      → ((threads groups : ℕ) (p : Program) (v : Schedule) → Reached code lengths class threads groups x p v → none ≡ head_of (found_with true p x.steps none v t))
+      → Sought code lengths class x (t + 1)
+  sought_none t h left visited c =
       let p = c.2 in
       let v = c.3 in
-      seek_next (λ d. found_with true p x.steps none v d) 6 (found_behind true p x.steps none v) t h (left c) (found_none r f ∙ visited c.0 c.1 p v c.4)
+      seek_next (λ d. found_with true p x.steps none v d) 6 (found_behind true p x.steps none v) t h (left c) (visited c.0 c.1 p v c.4)
 
   -- with t, which is not tried
   pub sought_passed : (t : ℕ) → t < 6 → Sought code lengths class x t

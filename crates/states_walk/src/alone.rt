@@ -13,37 +13,32 @@ ghost use Rattle.theory_states.specs.Numbers.{charged};
 ghost use Rattle.theory_states.specs.Wrapped.{Wrapped};
 ghost use Rattle.states_walk.specs.Known.{numbers_at};
 
+use file_decoder::Compiled;
 use file_lines::wide;
-use file_rows::Code;
 use machine::lean_step;
-use search_tail::{Runner, runner_at};
+use search_tail::Runner;
 
 // Thread t at its end, and whether one of the steps to there failed or, as the runner says, something had failed before.
-pub(crate) fn ran_out(code: &Code, lengths: &[usize; 6], r: Runner, t: u8) -> Runner
+pub(crate) fn ran_out(program: &Compiled, mut r: Runner, t: u8) -> Runner
     requires { ((class : List ℕ) × (threads : ℕ) × (groups : ℕ) × (x : Place) × (p : Program) × (v : Schedule)
-        × Reached code.now lengths.now class threads groups x p v × RunnerOf x t r) × (t < 6) }
+        × Reached program.now.code program.now.lengths class threads groups x p v × RunnerOf x t r) × (t < 6) }
     ensures within { result.steps ≤ 24 }
     ensures last { (class : List ℕ) (threads groups : ℕ) (x : Place) (p : Program) (v : Schedule)
-        → Reached code.now lengths.now class threads groups x p v → RunnerOf x t r → Settled p v t false
+        → Reached program.now.code program.now.lengths class threads groups x p v → RunnerOf x t r → Settled p v t false
         → Wrapped (charged r.failed (numbers_at p v)) 1 (cond result.failed 1 0)
         × (r.failed ≡ fails (end_of p v)
         → found_behind true p x.steps none v ≡ cond result.failed (take result.steps result.schedule ∷ []) []) }
 {
-    let mut k = r.thread;
-    let mut memory = r.memory;
-    let mut schedule = r.schedule;
-    let mut n = r.steps;
-    let mut failed = r.failed;
-    let end = lengths[wide(t)];
-    while k.at < end {
-        let m = lean_step(code, lengths, k, memory, t);
-        k = m.thread;
-        memory = m.memory;
-        schedule[n] = t;
-        n += 1;
-        if k.failed {
-            failed = true;
-        }
+    let end = program.lengths[wide(t)];
+    // A step may leave out instructions: how many steps there are is not known before.
+    while r.thread.at < end {
+        let m = lean_step(program, r.thread, r.memory, t);
+        let memory = m.memory;
+        r.thread = m.thread;
+        r.memory = memory;
+        r.schedule[r.steps] = t;
+        r.steps += 1;
+        r.failed |= m.thread.failed;
     }
-    runner_at(k, memory, schedule, n, failed)
+    r
 }

@@ -13,135 +13,105 @@ ghost use Rattle.theory_states.specs.Wrapped.{Wrapped};
 ghost use Rattle.states_walk.specs.Known.{Numbered, numbers_at, numbers_by};
 
 use crate::alone::ran_out;
-use crate::plain::{one, tally_behind};
-use crate::stepping::advanced;
+use crate::plain::tally_behind;
+use crate::setup::Setup;
+use crate::stepping::advance;
 use file_lines::wide;
-use file_rows::Code;
 use search_rules::some_asleep;
-use search_tail::{last_runner, runner_at};
+use search_tail::{Runner, last_runner};
 use search_walk::is_tried;
 use states_key::{Spot, key};
-use states_memory::{Shape, Tally, added, charged, keep, recall};
+use states_memory::{NONE, ONE, Shape, Tally, added, charged, keep, recall};
 
 // Of those with t, which is tried, as the next step.
 #[cycle(behind_summed_visit)]
-pub fn visit(
-    code: &Code,
-    lengths: &[usize; 6],
-    class: &[usize; 6],
-    left: &[u8; 192],
-    masks: &[u8; 96],
-    shape: Shape,
-    x: Spot,
-    table: &mut [u64],
-    t: u8,
-) -> Tally
+pub fn visit(setup: &Setup, shape: Shape, x: &Spot, table: &mut [u64], t: u8) -> Tally
     requires { ((threads : ℕ) × (groups : ℕ) × (p : Program) × (v : Schedule)
-        × Stands code.now lengths.now class.now threads groups x p v)
-        × Left code.now lengths.now left.now × Live code.now lengths.now masks.now × (shape.width ≤ 18)
-        × ((threads groups : ℕ) (p : Program) (v : Schedule) → Stands code.now lengths.now class.now threads groups x p v
+        × Stands setup.now.program.code setup.now.program.lengths setup.now.program.class threads groups x.now p v)
+        × Left setup.now.program.code setup.now.program.lengths setup.now.left
+        × Live setup.now.program.code setup.now.program.lengths setup.now.masks × (shape.width ≤ 18)
+        × ((threads groups : ℕ) (p : Program) (v : Schedule)
+        → Stands setup.now.program.code setup.now.program.lengths setup.now.program.class threads groups x.now p v
         → tried p v t ≡ true) }
     ensures words { length table.new ≡ length table.old }
     ensures numbers { (threads groups : ℕ) (p : Program) (v : Schedule)
-        → Stands code.now lengths.now class.now threads groups x p v → Wide shape.width p
+        → Stands setup.now.program.code setup.now.program.lengths setup.now.program.class threads groups x.now p v → Wide shape.width p
         → Numbered p shape.width shape.slots table.old
         → Wrapped (numbers_by p v t) result.listed result.failing × Numbered p shape.width shape.slots table.new }
 {
-    let y = advanced(code, lengths, x, t);
-    if some_asleep(code, lengths, left, y.threads, y.late) {
-        return Tally {
-            listed: 0,
-            failing: 0,
-        };
+    let mut y = *x;
+    advance(&setup.program, &mut y, t);
+    if some_asleep(&setup.program, &setup.left, y.place.threads, y.place.late) {
+        return NONE;
     }
-    let k = y.threads[wide(t)];
-    let s = last_runner(y.live, false);
-    if s < 6 {
-        let r = runner_at(y.threads[wide(s)], y.memory, y.schedule, y.steps, k.failed);
-        let end = ran_out(code, lengths, r, s);
-        return charged(end.failed, one());
+    let failed = y.place.threads[wide(t)].failed;
+    if let Some(s) = last_runner(y.place.live, false) {
+        let end = ran_out(&setup.program, Runner::of(&y.place, s, failed), s);
+        return charged(end.failed, ONE);
     }
-    if shape.deep <= y.steps {
-        let few = tally_behind(code, lengths, class, left, y);
-        return charged(k.failed, few);
-    }
-    let n = behind(code, lengths, class, left, masks, shape, y, table);
-    charged(k.failed, n)
+    let n = behind(setup, shape, &y, table);
+    charged(failed, n)
 }
 
 // Of all next steps, where some thread has not ended.
 #[cycle(behind_summed_visit)]
-fn summed(
-    code: &Code,
-    lengths: &[usize; 6],
-    class: &[usize; 6],
-    left: &[u8; 192],
-    masks: &[u8; 96],
-    shape: Shape,
-    x: Spot,
-    table: &mut [u64],
-) -> Tally
+fn summed(setup: &Setup, shape: Shape, x: &Spot, table: &mut [u64]) -> Tally
     requires { ((threads : ℕ) × (groups : ℕ) × (p : Program) × (v : Schedule)
-        × Stands code.now lengths.now class.now threads groups x p v)
-        × Left code.now lengths.now left.now × Live code.now lengths.now masks.now × (shape.width ≤ 18) × (x.live ≢ 0) }
+        × Stands setup.now.program.code setup.now.program.lengths setup.now.program.class threads groups x.now p v)
+        × Left setup.now.program.code setup.now.program.lengths setup.now.left
+        × Live setup.now.program.code setup.now.program.lengths setup.now.masks × (shape.width ≤ 18) × (x.now.place.live ≢ 0) }
     ensures words { length table.new ≡ length table.old }
     ensures numbers { (threads groups : ℕ) (p : Program) (v : Schedule)
-        → Stands code.now lengths.now class.now threads groups x p v → Wide shape.width p
+        → Stands setup.now.program.code setup.now.program.lengths setup.now.program.class threads groups x.now p v → Wide shape.width p
         → Numbered p shape.width shape.slots table.old
         → Wrapped (numbers_at p v) result.listed result.failing × Numbered p shape.width shape.slots table.new }
 {
-    let mut sum = Tally {
-        listed: 0,
-        failing: 0,
-    };
-    let mut t = 0;
-    while t < 6 {
-        if is_tried(class, &x.words, x.live, x.late, t) {
-            let n = visit(code, lengths, class, left, masks, shape, x, table, t);
+    let mut sum = NONE;
+    for t in 0..6 {
+        if is_tried(
+            &setup.program.class,
+            &x.place.words,
+            x.place.live,
+            x.place.late,
+            t,
+        ) {
+            let n = visit(setup, shape, x, table, t);
             sum = added(sum, n);
         }
-        t += 1;
     }
     sum
 }
 
 // Of all behind the steps taken.
 #[cycle(behind_summed_visit)]
-pub(crate) fn behind(
-    code: &Code,
-    lengths: &[usize; 6],
-    class: &[usize; 6],
-    left: &[u8; 192],
-    masks: &[u8; 96],
-    shape: Shape,
-    x: Spot,
-    table: &mut [u64],
-) -> Tally
+pub(crate) fn behind(setup: &Setup, shape: Shape, x: &Spot, table: &mut [u64]) -> Tally
     requires { ((threads : ℕ) × (groups : ℕ) × (p : Program) × (v : Schedule)
-        × Stands code.now lengths.now class.now threads groups x p v)
-        × Left code.now lengths.now left.now × Live code.now lengths.now masks.now × (shape.width ≤ 18) }
+        × Stands setup.now.program.code setup.now.program.lengths setup.now.program.class threads groups x.now p v)
+        × Left setup.now.program.code setup.now.program.lengths setup.now.left
+        × Live setup.now.program.code setup.now.program.lengths setup.now.masks × (shape.width ≤ 18) }
     ensures words { length table.new ≡ length table.old }
     ensures numbers { (threads groups : ℕ) (p : Program) (v : Schedule)
-        → Stands code.now lengths.now class.now threads groups x p v → Wide shape.width p
+        → Stands setup.now.program.code setup.now.program.lengths setup.now.program.class threads groups x.now p v → Wide shape.width p
         → Numbered p shape.width shape.slots table.old
         → Wrapped (numbers_at p v) result.listed result.failing × Numbered p shape.width shape.slots table.new }
 {
-    if x.live == 0 {
-        return one();
+    if x.place.live == 0 {
+        return ONE;
     }
-    if shape.deep <= x.steps {
-        return tally_behind(code, lengths, class, left, x);
+    if shape.deep <= x.place.steps {
+        return tally_behind(&setup.program, &setup.left, &x.place);
     }
-    let k = key(lengths, class, masks, x);
-    let width = shape.width;
-    let known = recall(table, shape, &k[..width]);
-    if known.known {
-        return Tally {
-            listed: known.listed,
-            failing: known.failing,
-        };
+    let k = key(
+        &setup.program.lengths,
+        &setup.program.class,
+        &setup.masks,
+        x,
+    );
+    let words = &k[..shape.width];
+    if let Some(known) = recall(table, shape, words) {
+        return known;
     }
-    let sum = summed(code, lengths, class, left, masks, shape, x, table);
-    keep(table, shape, &k[..width], sum);
+    let sum = summed(setup, shape, x, table);
+    keep(table, shape, words, sum);
     sum
 }

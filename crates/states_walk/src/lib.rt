@@ -1,6 +1,8 @@
 // Count and first failing schedule by states, under sequential consistency.
 #![tactic(auto)]
 
+// What is made ready before a walk.
+mod setup;
 // A step of the search.
 mod stepping;
 // The last running thread.
@@ -16,7 +18,8 @@ mod seeking;
 // Both of a decoded program, with a lent table.
 mod answering;
 
-pub use answering::{Setup, counted, first_failing, made, shape_of};
+pub use answering::{counted, first_failing, made, shape_of};
 pub use counting::visit;
-pub use seeking::{First, nothing};
-pub use stepping::advanced;
+pub use seeking::steps_if;
+pub use setup::Setup;
+pub use stepping::advance;

@@ -12,183 +12,131 @@ ghost use Rattle.theory_sc_key.specs.Key.{Wide};
 ghost use Rattle.states_live.specs.Live.{Live};
 ghost use Rattle.states_key.specs.Stands.{Stands};
 ghost use Rattle.states_walk.specs.Known.{Marked};
-ghost use Rattle.states_walk.specs.FoundOf.{found_of};
+ghost use Rattle.listing_cursor.specs.Steps.{found_of, Short};
 
 use crate::alone::ran_out;
 use crate::seeking_plainly::plain_among;
-use crate::stepping::advanced;
-use file_lines::wide;
-use file_rows::Code;
+use crate::setup::Setup;
+use crate::stepping::advance;
+use listing_cursor::Steps;
 use machine::some_failed;
 use search_rules::some_asleep;
-use search_tail::{Runner, last_runner, runner_at};
+use search_tail::{Runner, last_runner};
 use search_walk::is_tried;
 use spec_file::STEPS;
 use states_key::{Spot, key};
 use states_memory::{Shape, is_marked, mark};
 
-#[derive(Clone, Copy)]
-pub struct First {
-    pub found: bool,
-    pub steps: usize,
-    pub schedule: [u8; STEPS],
-}
-
-// None.
-pub fn nothing() -> First
-    ensures { (result.steps ≤ 24) × (found_of result ≡ none) }
+// A schedule, if the flag is set.
+pub fn steps_if(flag: bool, schedule: [u8; STEPS], steps: usize) -> Option<Steps<STEPS>>
+    ensures found { found_of result ≡ cond flag (some (take steps schedule)) none }
+    ensures short { steps ≤ 24 → Short result }
 {
-    First {
-        found: false,
-        steps: 0,
-        schedule: [0u8; STEPS],
-    }
-}
-
-// The schedule of a run to the end, if something has failed.
-pub(crate) fn first_of(end: Runner) -> First
-    ensures { (result.steps ≡ end.steps) × (found_of result ≡ cond end.failed (some (take end.steps end.schedule)) none) }
-{
-    let schedule = end.schedule;
-    First {
-        found: end.failed,
-        steps: end.steps,
-        schedule: schedule,
-    }
-}
-
-// Whether what is known of a key is asked for behind so many steps: nothing has failed, and the search would take more time than the key.
-fn is_keyed(shape: Shape, steps: usize, failed: bool) -> bool
-    ensures { result ≡ true → failed ≡ false }
-{
-    if failed {
-        return false;
-    }
-    steps < shape.deep
+    flag.then_some(Steps { schedule, steps })
 }
 
 // Of those with t, which is tried, as the next step.
 #[cycle(first_among_first_behind_first_with)]
 fn first_with(
-    code: &Code,
-    lengths: &[usize; 6],
-    class: &[usize; 6],
-    left: &[u8; 192],
-    masks: &[u8; 96],
+    setup: &Setup,
     shape: Shape,
-    x: Spot,
+    x: &Spot,
     table: &mut [u64],
     t: u8,
-) -> First
+) -> Option<Steps<STEPS>>
     requires { ((threads : ℕ) × (groups : ℕ) × (p : Program) × (v : Schedule)
-        × Stands code.now lengths.now class.now threads groups x p v)
-        × Left code.now lengths.now left.now × Live code.now lengths.now masks.now × (shape.width ≤ 18)
-        × ((threads groups : ℕ) (p : Program) (v : Schedule) → Stands code.now lengths.now class.now threads groups x p v
+        × Stands setup.now.program.code setup.now.program.lengths setup.now.program.class threads groups x.now p v)
+        × Left setup.now.program.code setup.now.program.lengths setup.now.left
+        × Live setup.now.program.code setup.now.program.lengths setup.now.masks × (shape.width ≤ 18)
+        × ((threads groups : ℕ) (p : Program) (v : Schedule)
+        → Stands setup.now.program.code setup.now.program.lengths setup.now.program.class threads groups x.now p v
         → tried p v t ≡ true) }
-    ensures words { (length table.new ≡ length table.old) × (result.steps ≤ 24) }
+    ensures words { (length table.new ≡ length table.old) × Short result }
     ensures first { (threads groups : ℕ) (p : Program) (v : Schedule)
-        → Stands code.now lengths.now class.now threads groups x p v → Wide shape.width p
+        → Stands setup.now.program.code setup.now.program.lengths setup.now.program.class threads groups x.now p v → Wide shape.width p
         → Marked p shape.width shape.slots table.old
-        → (found_of result ≡ head_of (found_with true p x.steps none v t)) × Marked p shape.width shape.slots table.new }
+        → (found_of result ≡ head_of (found_with true p x.now.place.steps none v t)) × Marked p shape.width shape.slots table.new }
 {
-    let y = advanced(code, lengths, x, t);
-    let threads = y.threads;
-    if some_asleep(code, lengths, left, threads, y.late) {
-        let r = nothing();
-        return r;
+    let mut y = *x;
+    advance(&setup.program, &mut y, t);
+    if some_asleep(&setup.program, &setup.left, y.place.threads, y.place.late) {
+        return None;
     }
-    let s = last_runner(y.live, false);
-    if s < 6 {
-        let failed = some_failed(threads);
-        let last = runner_at(y.threads[wide(s)], y.memory, y.schedule, y.steps, failed);
-        let end = ran_out(code, lengths, last, s);
-        let r = first_of(end);
-        return r;
+    if let Some(s) = last_runner(y.place.live, false) {
+        let r = Runner::of(&y.place, s, some_failed(y.place.threads));
+        let end = ran_out(&setup.program, r, s);
+        return steps_if(end.failed, end.schedule, end.steps);
     }
-    let r = first_behind(code, lengths, class, left, masks, shape, y, table);
-    r
+    first_behind(setup, shape, &y, table)
 }
 
 // Of all next steps, where some thread has not ended.
 #[cycle(first_among_first_behind_first_with)]
-fn first_among(
-    code: &Code,
-    lengths: &[usize; 6],
-    class: &[usize; 6],
-    left: &[u8; 192],
-    masks: &[u8; 96],
-    shape: Shape,
-    x: Spot,
-    table: &mut [u64],
-) -> First
+fn first_among(setup: &Setup, shape: Shape, x: &Spot, table: &mut [u64]) -> Option<Steps<STEPS>>
     requires { ((threads : ℕ) × (groups : ℕ) × (p : Program) × (v : Schedule)
-        × Stands code.now lengths.now class.now threads groups x p v)
-        × Left code.now lengths.now left.now × Live code.now lengths.now masks.now × (shape.width ≤ 18) × (x.live ≢ 0) }
-    ensures words { (length table.new ≡ length table.old) × (result.steps ≤ 24) }
+        × Stands setup.now.program.code setup.now.program.lengths setup.now.program.class threads groups x.now p v)
+        × Left setup.now.program.code setup.now.program.lengths setup.now.left
+        × Live setup.now.program.code setup.now.program.lengths setup.now.masks × (shape.width ≤ 18) × (x.now.place.live ≢ 0) }
+    ensures words { (length table.new ≡ length table.old) × Short result }
     ensures first { (threads groups : ℕ) (p : Program) (v : Schedule)
-        → Stands code.now lengths.now class.now threads groups x p v → Wide shape.width p
+        → Stands setup.now.program.code setup.now.program.lengths setup.now.program.class threads groups x.now p v → Wide shape.width p
         → Marked p shape.width shape.slots table.old
-        → (found_of result ≡ head_of (found_behind true p x.steps none v)) × Marked p shape.width shape.slots table.new }
+        → (found_of result ≡ head_of (found_behind true p x.now.place.steps none v)) × Marked p shape.width shape.slots table.new }
 {
-    let mut t = 0;
-    while t < 6 {
-        if is_tried(class, &x.words, x.live, x.late, t) {
-            let r = first_with(code, lengths, class, left, masks, shape, x, table, t);
-            if r.found {
-                return r;
+    for t in 0..6 {
+        if is_tried(
+            &setup.program.class,
+            &x.place.words,
+            x.place.live,
+            x.place.late,
+            t,
+        ) {
+            if let Some(found) = first_with(setup, shape, x, table, t) {
+                return Some(found);
             }
         }
-        t += 1;
     }
-    let r = nothing();
-    r
+    None
 }
 
 // Of all behind the steps taken.
 #[cycle(first_among_first_behind_first_with)]
 pub(crate) fn first_behind(
-    code: &Code,
-    lengths: &[usize; 6],
-    class: &[usize; 6],
-    left: &[u8; 192],
-    masks: &[u8; 96],
+    setup: &Setup,
     shape: Shape,
-    x: Spot,
+    x: &Spot,
     table: &mut [u64],
-) -> First
+) -> Option<Steps<STEPS>>
     requires { ((threads : ℕ) × (groups : ℕ) × (p : Program) × (v : Schedule)
-        × Stands code.now lengths.now class.now threads groups x p v)
-        × Left code.now lengths.now left.now × Live code.now lengths.now masks.now × (shape.width ≤ 18) }
-    ensures words { (length table.new ≡ length table.old) × (result.steps ≤ 24) }
+        × Stands setup.now.program.code setup.now.program.lengths setup.now.program.class threads groups x.now p v)
+        × Left setup.now.program.code setup.now.program.lengths setup.now.left
+        × Live setup.now.program.code setup.now.program.lengths setup.now.masks × (shape.width ≤ 18) }
+    ensures words { (length table.new ≡ length table.old) × Short result }
     ensures first { (threads groups : ℕ) (p : Program) (v : Schedule)
-        → Stands code.now lengths.now class.now threads groups x p v → Wide shape.width p
+        → Stands setup.now.program.code setup.now.program.lengths setup.now.program.class threads groups x.now p v → Wide shape.width p
         → Marked p shape.width shape.slots table.old
-        → (found_of result ≡ head_of (found_behind true p x.steps none v)) × Marked p shape.width shape.slots table.new }
+        → (found_of result ≡ head_of (found_behind true p x.now.place.steps none v)) × Marked p shape.width shape.slots table.new }
 {
-    let threads = x.threads;
-    let failed = some_failed(threads);
-    if x.live == 0 {
-        let schedule = x.schedule;
-        return First {
-            found: failed,
-            steps: x.steps,
-            schedule: schedule,
-        };
+    let failed = some_failed(x.place.threads);
+    if x.place.live == 0 {
+        return steps_if(failed, x.place.schedule, x.place.steps);
     }
-    if !is_keyed(shape, x.steps, failed) {
-        let r = plain_among(code, lengths, class, left, x);
-        return r;
+    if failed || shape.deep <= x.place.steps {
+        return plain_among(&setup.program, &setup.left, &x.place);
     }
-    let k = key(lengths, class, masks, x);
-    let width = shape.width;
-    if is_marked(table, shape, &k[..width]) {
-        let r = nothing();
-        return r;
+    let k = key(
+        &setup.program.lengths,
+        &setup.program.class,
+        &setup.masks,
+        x,
+    );
+    let words = &k[..shape.width];
+    if is_marked(table, shape, words) {
+        return None;
     }
-    let r = first_among(code, lengths, class, left, masks, shape, x, table);
-    if r.found {
-        return r;
+    if let Some(found) = first_among(setup, shape, x, table) {
+        return Some(found);
     }
-    mark(table, shape, &k[..width]);
-    r
+    mark(table, shape, words);
+    None
 }

@@ -1,13 +1,13 @@
 -- An entry put into a table: its slot says it, every slot that is a slot apart says what it said before.
-use Rattle.std.proofs.Common.{◌≡◌, ℕ, ◌+◌, ◌<◌, ◌≤◌, ◌≢◌, ◌⊎◌, List, length, get_or, sym, refl, ap, ◌∙◌, subst, inl, inr, ⊎_elim, arith}
+use Rattle.std.proofs.Common.{◌≡◌, ℕ, ◌+◌, ◌≤◌, ◌≢◌, List, length, get_or, sym, ap, ◌∙◌, subst, inl, inr, ⊎_elim, arith}
 use mathlib.Core.Option.{some}
 use lib.Seq.{paste, length-paste}
 use Rattle.table.specs.Said.{part, said_at}
-use Rattle.table.specs.Places.{place_of, said}
+use Rattle.table.specs.Places.{place_of}
 use Rattle.table.specs.Answers.{Honest, Put}
 use Rattle.table.proofs.Slot.{said_some, said_is}
 use Rattle.table.proofs.Apart.{place_apart}
-use Rattle.table.proofs.Written.{written, part_written, part_before, part_behind}
+use Rattle.table.proofs.Written.{part_written, part_before, part_behind}
 
 module _ (at : ℕ) (k e m : List ℕ) (fits : at + (length k + length e) ≤ length m) where
   -- the key written, and behind it the entry
@@ -77,7 +77,3 @@ pub put_written : (at : ℕ) (k e m m₁ m₂ : List ℕ) → at + (length k + l
     → m₂ ≡ paste m₁ (at + length k) e (length e) → Put at k e m m₂
 put_written at k e m m₁ m₂ f a b =
     subst (λ (l : List ℕ). Put at k e m l) (sym (b ∙ ap (λ (l : List ℕ). paste l (at + length k) e (length e)) a)) (put_there at k e m f)
-
--- a table without room for the slot stays as it is
-pub put_nowhere : (at : ℕ) (k e m : List ℕ) → length m < at + (length k + length e) → Put at k e m m
-put_nowhere at k e m h = record { words = refl; honest = λ slots a j l c s. inl s; kept = λ f n. absurd (omega arith) }

@@ -1,7 +1,7 @@
 -- The laws, in the order in which they rest on each other.
 -- what the slot at a place says, by its tests
 pub mod Slot
--- a key compared, one word after the other
+-- a key compared with the words of a slot
 pub mod Compared
 -- words mixed, one after the other; two keys' places are one or apart
 pub mod Apart

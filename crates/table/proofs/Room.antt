@@ -1,6 +1,6 @@
 -- EVERY KEY HAS A SLOT: where a table has room for so many slots, each key's is within its words. So what is put is found again until
 -- another key takes the slot.
-use Rattle.std.proofs.Common.{◌≡◌, ℕ, suc, ◌+◌, ◌*◌, ◌/◌, ◌%◌, ◌^◌, ◌<◌, ◌≤◌, Bool, true, false, ltb, List, [], ◌∷◌, length, refl, ap, ◌∙◌, mul-le-mul_right, suc-mul, arith}
+use Rattle.std.proofs.Common.{◌≡◌, ℕ, suc, ◌+◌, ◌*◌, ◌/◌, ◌%◌, ◌^◌, ◌<◌, ◌≤◌, Bool, true, false, ltb, List, [], ◌∷◌, length, refl, mul-le-mul_right, suc-mul, arith}
 use Rattle.table.specs.Places.{mixed, hash_from, slot_of, place_of}
 
 hash_below : (h : ℕ) (k : List ℕ) → h < 2 ^ 64 → hash_from h k < 2 ^ 64

@@ -1,7 +1,7 @@
 -- What the slot at a place says of a key, by its three tests; zeros say nothing.
-use Rattle.std.proofs.Common.{◌≡◌, ℕ, ◌+◌, ◌<◌, ◌≤◌, Bool, true, false, cond, eqb, leb, ◌≢◌, List, [], ◌∷◌, length, get_or, take, drop, replicate, sym, refl, ap, ◌∙◌, arith, get_or-drop, get_or-take, eq-eqb, ne_eqb, eqb-true, le-leb, leb-true}
+use Rattle.std.proofs.Common.{◌≡◌, ℕ, ◌+◌, ◌<◌, ◌≤◌, Bool, true, false, eqb, leb, ◌≢◌, List, [], ◌∷◌, length, get_or, drop, replicate, sym, refl, ap, ◌∙◌, arith, get_or-drop, get_or-take, eq-eqb, ne_eqb, eqb-true, le-leb, leb-true}
 use mathlib.Core.Option.{Option, none, some}
-use borrow.Author.Tests.{eqb-false, lt-leb}
+use borrow.Author.Tests.{eqb-false}
 use lib.ListN.{length-replicate, get_or-replicate}
 use Rattle.spec_file.specs.Lists.{same_list}
 use Rattle.spec_file.proofs.Lists.{same_list_lem, same_list_is}

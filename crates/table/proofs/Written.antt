@@ -1,18 +1,7 @@
 -- Words written over a part of others: that part is then these words, and every part before or behind it is what it was.
-use Rattle.std.proofs.Common.{◌≡◌, ℕ, ◌+◌, ◌-◌, ◌<◌, ◌≤◌, List, [], ◌∷◌, ◌++◌, length, get_or, take, drop, set, replicate, sym, refl, ap, ◌∙◌, append_assoc, add-one, arith, length-drop, take-append-drop, length-take-le, drop-drop, take-suc-set, take_at, drop_at}
-use lib.ListN.{replicate-append-replicate}
-use lib.Seq.{paste, paste-suc, take-length, take-append-le, drop-append-le, drop-paste}
+use Rattle.std.proofs.Common.{◌≡◌, ℕ, ◌+◌, ◌-◌, ◌≤◌, List, ◌++◌, length, take, drop, sym, ap, ◌∙◌, append_assoc, arith, length-drop, take-append-drop, length-take-le, drop-drop, take_at, drop_at}
+use lib.Seq.{paste, take-length, take-append-le, drop-append-le, drop-paste}
 use Rattle.table.specs.Said.{part}
-
--- one zero more
-pub zero_more : (m : List ℕ) (i : ℕ) → i < length m → take i m ≡ replicate i 0 → take (i + 1) (set m i 0) ≡ replicate (i + 1) 0
-zero_more m i h e =
-    ap (λ (n : ℕ). take n (set m i 0)) (add-one i) ∙ take-suc-set m i 0 h ∙ ap (λ (l : List ℕ). l ++ (0 ∷ [])) e ∙ replicate-append-replicate i 1 0
-
--- one word more written over a part
-pub write_more : (m m' s : List ℕ) (at i : ℕ) → at + length s ≤ length m → i < length s → m' ≡ paste m at s i → set m' (at + i) (get_or s i 0) ≡ paste m at s (i + 1)
-write_more m m' s at i f h e =
-    ap (λ (l : List ℕ). set l (at + i) (get_or s i 0)) e ∙ paste-suc m at s i 0 (omega arith) h ∙ ap (λ (n : ℕ). paste m at s n) (sym (add-one i))
 
 -- a part of the front
 part_front : (m r : List ℕ) (at b q : ℕ) → at ≤ length m → b + q ≤ at → part (take at m ++ r) b q ≡ take q (drop b (take at m))

@@ -1,20 +1,19 @@
 -- What looking answers, and what putting leaves.
-use Rattle.std.specs.Prelude.{◌≡◌, ℕ, ◌+◌, ◌≤◌, ◌≢◌, ◌⊎◌, List, length, slice_index}
-use Rattle.std.proofs.Math.Option.{Option, none, some}
-use Rattle.table.specs.declared.looking.Found.{Found}
-use Rattle.table.specs.declared.looking.Found.TheVariants.{At, Nothing}
+use Rattle.std.specs.Prelude.{◌≡◌, ℕ, ◌+◌, ◌≤◌, ◌≢◌, ◌⊎◌, List, length, slice_index, Option, Some, None}
+use Rattle.std.proofs.Math.Option as Math
+use Rattle.std.proofs.Math.Option.{some}
 use Rattle.table.specs.Said.{part, said_at}
 use Rattle.table.specs.Places.{place_of, said}
 
 -- the words that were found
-abbrev pub read : List ℕ → ℕ → Found → Option (List ℕ)
-read m width (At i) = some (part m i width)
-read m width Nothing = none
+abbrev pub read : List ℕ → ℕ → Option ℕ → Math.Option (List ℕ)
+read m width (Some i) = Math.some (part m i width)
+read m width None = Math.none
 
 -- they stand in the table
-abbrev pub Within : Found → ℕ → List ℕ → Type 0
-Within (At i) width m = i + width ≤ length m
-Within Nothing width m = Unit {0}
+abbrev pub Within : Option ℕ → ℕ → List ℕ → Type 0
+Within (Some i) width m = i + width ≤ length m
+Within None width m = Unit {0}
 
 -- HONEST: of every key as wide, what a table says with an entry put into it, it said before, or it is the new entry of the new key
 abbrev pub Honest : ℕ → List ℕ → List ℕ → List ℕ → List ℕ → Type 0

@@ -12,11 +12,7 @@ pub fn write(table: &mut [u64], at: usize, words: &[u64])
     requires { at + length words.now ≤ length table.old }
     ensures { table.new ≡ paste table.old at words.now (length words.now) }
 {
-    let mut i = 0;
-    while i < words.len() {
-        table[at + i] = words[i];
-        i += 1;
-    }
+    table[at..at + words.len()].copy_from_slice(words);
 }
 
 // Puts a key and what is known of it into the slot that begins here; a table that ends before the slot stays as it is.
@@ -35,9 +31,5 @@ pub fn clear(table: &mut [u64])
     ensures zeros { table.new ≡ replicate (length table.old) 0 }
     ensures nothing { (at width : ℕ) (k : List ℕ) → said_at at width table.new k ≡ none }
 {
-    let mut k = 0;
-    while k < table.len() {
-        table[k] = 0;
-        k += 1;
-    }
+    table.fill(0);
 }

@@ -9,5 +9,5 @@ mod looking;
 mod keeping;
 
 pub use keeping::{clear, put, write};
-pub use looking::{Found, look};
+pub use looking::look;
 pub use placing::{place, slots};

@@ -33,10 +33,8 @@ fn hash(key: &[u64]) -> u64
     ensures { result ≡ hash_from 0 key.now }
 {
     let mut h = 0;
-    let mut i = 0;
-    while i < key.len() {
-        h = mix(h, key[i]);
-        i += 1;
+    for w in key {
+        h = mix(h, *w);
     }
     h
 }
@@ -52,10 +50,7 @@ fn slot(slots: usize, h: u64) -> usize
 pub fn place(slots: usize, width: usize, key: &[u64]) -> usize
     ensures { result ≡ place_of slots width key.now }
 {
-    if 4096 < key.len() {
-        return 0;
-    }
-    if 4096 < width {
+    if 4096 < key.len() || 4096 < width {
         return 0;
     }
     slot(slots, hash(key)) * (key.len() + width)
@@ -65,18 +60,8 @@ pub fn place(slots: usize, width: usize, key: &[u64]) -> usize
 pub fn slots(words: usize, key: usize, width: usize) -> usize
     ensures { (result * (key + width) ≤ words) × (result < 2 ^ 32) }
 {
-    if 4096 < key {
+    if 4096 < key || 4096 < width || key + width == 0 {
         return 0;
     }
-    if 4096 < width {
-        return 0;
-    }
-    if key + width == 0 {
-        return 0;
-    }
-    let n = words / (key + width);
-    if 0xffff_ffff < n {
-        return 0xffff_ffff;
-    }
-    n
+    (words / (key + width)).min(0xffff_ffff)
 }

@@ -5,7 +5,7 @@ use mathlib.Core.List.{List, [], ◌∷◌, ◌++◌, map, map-append, append_as
 use native.Mathlib.Omega.{arith}
 use native.Mathlib.Nat.{pow-suc, pow-le-pow_right}
 use lib.ListN.{length, length-append, length-map, length-replicate, get_or, set, take, replicate}
-use lib.Seq.{set_at, take_all}
+use lib.Seq.{take_all}
 use Rattle.spec_schedules.specs.Lists.{range}
 use Rattle.spec_schedules.proofs.Lists.{range_length}
 use Rattle.spec_tso.specs.Queue.{Entry}

@@ -1,18 +1,18 @@
 -- Nearness from arrays, test by test as the code asks.
 use Prim.Native.Nat.{ℕ, zero, suc, ◌-◌, ◌/◌, ◌%◌, ◌^◌, ◌<◌, ◌≤◌}
-use mathlib.Core.Path.{◌≡◌, refl, sym, ap, ap₂, ◌∙◌}
+use mathlib.Core.Path.{◌≡◌, refl, sym, ap, ◌∙◌}
 use mathlib.Core.Logic.{◌≢◌}
-use mathlib.Core.Bool.{Bool, true, false, cond, not, ◌&&◌, ◌||◌}
+use mathlib.Core.Bool.{Bool, true, false, not, ◌&&◌, ◌||◌}
 use mathlib.Core.List.{List}
 use native.Mathlib.Omega.{arith}
 use lib.Dec.{eqb, ltb}
 use lib.ListN.{get_or}
-use borrow.Author.Tests.{eq-eqb, ne_eqb, lt-ltb, le-ltb, ltb-true}
+use borrow.Author.Tests.{eq-eqb, ne_eqb, lt-ltb, le-ltb}
 use Rattle.spec_file.specs.Program.{Program}
 use Rattle.spec_model.specs.Exchange.{together}
 use Rattle.machine.specs.declared.state.LastWrite.{LastWrite}
-use Rattle.search_place.specs.ClassGroups.{groups_of, Lined}
-use Rattle.search_place.proofs.ClassGroups.{together_class, not_together, together_known, alone_known}
+use Rattle.search_place.specs.ClassGroups.{Lined}
+use Rattle.search_place.proofs.ClassGroups.{together_known, alone_known}
 use Rattle.theory_sc.specs.Sets.{set_of}
 use Rattle.theory_sc.proofs.Sets.{set_none}
 use Rattle.theory_tso_key.specs.Ways.{again, becomes, near_by_word}
@@ -55,9 +55,9 @@ module _ (last : ℕ → ℕ) (n x y w : ℕ) where
       go zero = sym same
       go (suc k) = let q = same in rw q
 
-  pub led_nowhere : n ≡ 0 → y ≢ x → false ≡ becomes last n x y w
+  pub led_last : n ≡ 0 → eqb y x ≡ becomes last n x y w
   unfolding becomes
-  led_nowhere e ne = sym (ap (λ (k : ℕ). becomes last k x y w) e ∙ ne_eqb y x ne)
+  led_last e = sym (ap (λ (k : ℕ). becomes last k x y w) e)
 
   pub led_off : n ≢ 0 → y ≢ x → (b : Bool) → b ≡ again last (y % 128) (w % 8) → b ≡ false → false ≡ becomes last n x y w
   unfolding becomes

@@ -1,13 +1,12 @@
 -- WAYS ALONG A RUN, as far as eight accesses go: empty at the start; an access adds its location, every other step nothing.
-use Prim.Native.Nat.{ℕ, zero, suc, ◌+◌, ◌*◌, ◌%◌, ◌^◌, ◌<◌}
-use mathlib.Core.Path.{◌≡◌, refl, sym, ap, ◌∙◌}
+use Prim.Native.Nat.{ℕ, zero, suc}
+use mathlib.Core.Path.{◌≡◌, refl}
 use mathlib.Core.List.{List, [], ◌∷◌}
-use native.Mathlib.Omega.{arith}
 use lib.ListN.{get_or}
 use Rattle.spec_file.specs.Program.{Program}
 use Rattle.tso_place.specs.Reached.{Reached}
 use Rattle.tso_place.specs.declared.place.Place.{Place}
-use Rattle.theory_tso_key.specs.Ways.{way_after, way_of}
+use Rattle.theory_tso_key.specs.Ways.{way_after}
 use Rattle.tso_key.specs.Stands.{Stands}
 
 no_way : (t : ℕ) → ◌≡◌ {A = ℕ} (get_or (0 ∷ 0 ∷ 0 ∷ 0 ∷ 0 ∷ 0 ∷ []) t 0) 0

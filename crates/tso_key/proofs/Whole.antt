@@ -1,20 +1,18 @@
 -- THE KEY OF A SPOT: what its arrays hold is what the key has, part by part; and the parts put together are its words.
-use Prim.Native.Nat.{ℕ, zero, suc, ◌+◌, ◌-◌, ◌*◌, ◌/◌, ◌%◌, ◌^◌, ◌<◌, ◌≤◌}
-use mathlib.Core.Path.{◌≡◌, refl, sym, ap, ap₂, subst, ◌∙◌}
+use Prim.Native.Nat.{ℕ, zero, suc, ◌+◌, ◌-◌, ◌*◌, ◌^◌, ◌<◌, ◌≤◌}
+use mathlib.Core.Path.{◌≡◌, refl, sym, ap, ap₂, ◌∙◌}
 use mathlib.Core.Bool.{Bool, not, ◌&&◌}
 use mathlib.Core.List.{List, [], ◌∷◌, ◌++◌, map, map-append}
 use native.Mathlib.Omega.{arith}
 use lib.Dec.{eqb}
-use lib.ListN.{length, length-drop, length-map, get_or, take}
+use lib.ListN.{length, length-map, get_or, take}
 use Rattle.spec_file.specs.Program.{Program}
 use Rattle.spec_schedules.specs.Lists.{range}
 use Rattle.spec_schedules.specs.Order.{Schedule}
 use Rattle.spec_model.specs.Exchange.{together}
 use Rattle.spec_model.specs.Laws.{Admitted}
-use Rattle.machine.specs.Held as SC
 use Rattle.machine.specs.Held.{idle}
 use Rattle.spec_sc.specs.State.{Cell, latest}
-use Rattle.spec_sc.specs.State as SCState
 use Rattle.theory_sc.specs.Sets.{set_of}
 use Rattle.theory_sc.specs.ThreadWords.{digits}
 use Rattle.theory_sc.proofs.Sets.{set_same}
@@ -25,11 +23,8 @@ use Rattle.spec_tso.specs.Graph.{end_of}
 use Rattle.spec_tso.specs.TotalStoreOrder.{tso}
 use Rattle.spec_tso.proofs.Admits.{few_none}
 use Rattle.spec_tso.proofs.Seen.{seen_cell}
-use Rattle.file_rows.specs.Rows.{thread_code}
-use Rattle.machine_access.proofs.HeldSettling.{length_code}
 use Rattle.tso_machine.specs.Held.{core_of, Holds}
 use Rattle.tso_machine.specs.Slots.{no_store, queue_at}
-use Rattle.tso_machine.specs.declared.state.QueuedMachine.{QueuedMachine}
 use Rattle.tso_machine.proofs.HeldCore.{tail_below}
 use Rattle.tso_place.specs.Reached.{machine_of}
 use Rattle.theory_tso.specs.ReadWords.{source_digit, word_of}

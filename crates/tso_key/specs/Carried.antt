@@ -1,7 +1,8 @@
 -- NEARNESS FROM ARRAYS: by the last writes of memory, words and ways as the search holds them.
-use Rattle.std.specs.Prelude.{ℕ, ◌-◌, Bool, not, ◌&&◌, List, map, eqb, get_or}
+use Rattle.std.specs.Prelude.{ℕ, ◌-◌, ◌≡◌, Bool, not, ◌&&◌, List, map, eqb, get_or}
 use Rattle.spec_file.specs.Program.{Program}
 use Rattle.spec_model.specs.Exchange.{together}
+use Rattle.search_place.specs.ClassGroups.{Lined}
 use Rattle.machine.specs.declared.state.LastWrite.{LastWrite}
 use Rattle.machine.specs.Held.{unwritten, event_of}
 use Rattle.spec_schedules.specs.Lists.{range}
@@ -18,6 +19,10 @@ last_as last l = source_digit 6 (event_of (get_or last l unwritten))
 unfoldable pub carried_near : Program → List LastWrite → List ℕ → List ℕ → ℕ → ℕ → Bool
 carried_near p last words ways t u =
     not (eqb t u) && (together p.groups u t && near_by_word (last_as last) (get_or words t 0) (get_or words u 0) (get_or ways u 0))
+
+-- the answer r says of every program with these lines whether thread t is near u
+pub record IsNear (class : List ℕ) (last : List LastWrite) (words ways : List ℕ) (t u : ℕ) (r : Bool) : Type 0 where
+  pub says : (groups : ℕ) (p : Program) → Lined class groups p → r ≡ carried_near p last words ways t u
 
 -- ---- QUEUES FROM ARRAYS
 -- of the first so many threads what is pending

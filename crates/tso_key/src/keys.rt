@@ -31,16 +31,13 @@ fn sets_word(sets: Sets, near: u64) -> u64
 }
 
 // What is left to each thread, five bits each.
-fn lefts_word(lengths: &[usize; 6], threads: [ThreadState; 6]) -> u64
-    requires { (t : ℕ) → t < 6 → (get_or threads t idle).at < get_or lengths.now t 0 → get_or lengths.now t 0 ≤ 16 }
-    ensures { (result ≡ number 32 (left_at lengths.now threads)) × (result < 0x40000000) }
+fn lefts_word(lengths: &[usize; 6], threads: &[ThreadState; 6]) -> u64
+    requires { (t : ℕ) → t < 6 → (get_or threads.now t idle).at < get_or lengths.now t 0 → get_or lengths.now t 0 ≤ 16 }
+    ensures { (result ≡ number 32 (left_at lengths.now threads.now)) × (result < 0x40000000) }
 {
     let mut word = 0u64;
-    let mut t = 6;
-    while 0 < t {
-        t -= 1;
-        let k = threads[t];
-        word = word * 32 + left(k.at, lengths[t]);
+    for t in (0..6).rev() {
+        word = word * 32 + left(threads[t].at, lengths[t]);
     }
     word
 }
@@ -51,9 +48,7 @@ fn with_pending(lefts: u64, heads: &[u8; 6], tails: &[u8; 6]) -> u64
     ensures { (l : List ℕ) → lefts ≡ number 32 l → result ≡ number 32 (pending_at heads.now tails.now ++ l) }
 {
     let mut word = lefts;
-    let mut t = 6;
-    while 0 < t {
-        t -= 1;
+    for t in (0..6).rev() {
         word = word * 32 + ((tails[t] - heads[t]) as u64);
     }
     word
@@ -65,10 +60,8 @@ fn put_pairs(words: &mut [u64; 27], at: usize, values: &[u32], n: usize)
     ensures { (l : List ℕ) → length l ≡ at → words.old ≡ padded 27 l
         → words.new ≡ padded 27 (l ++ pairs (take (n + n) values.now)) }
 {
-    let mut i = 0;
-    while i < n {
+    for i in 0..n {
         words[at + i] = pair(values[i * 2], values[i * 2 + 1]);
-        i += 1;
     }
 }
 
@@ -82,45 +75,38 @@ fn joined(first: u64, second: u64, w: Waiting, values: [u32; 32]) -> [u64; 27]
     words[0] = first;
     words[1] = second;
     words[2] = w.places;
-    let stores = w.values;
-    put_pairs(&mut words, 3, &stores, 8);
+    put_pairs(&mut words, 3, &w.values, 8);
     put_pairs(&mut words, 3 + (w.count + 1) / 2, &values, 16);
     words
 }
 
 // The words of the position that this spot is, where these are the values that matter.
-fn words_of(lengths: &[usize; 6], class: &[usize; 6], x: Spot, values: [u32; 32]) -> [u64; 27]
+fn words_of(lengths: &[usize; 6], class: &[usize; 6], x: &Spot, values: [u32; 32]) -> [u64; 27]
     requires { (code : List ℕ) × (threads : ℕ) × (groups : ℕ) × (p : Program) × (v : Schedule)
-        × Stands code lengths.now class.now threads groups x p v }
+        × Stands code lengths.now class.now threads groups x.now p v }
     ensures { (code : List ℕ) (threads groups n : ℕ) (p : Program) (v : Schedule)
-        → Stands code lengths.now class.now threads groups x p v → values ≡ padded 32 (values_of (without_queues (end_of p v)))
+        → Stands code lengths.now class.now threads groups x.now p v → values ≡ padded 32 (values_of (without_queues (end_of p v)))
         → length (words_of (key_of p v (end_of p v))) ≤ n → n ≤ 27 → take n result ≡ word_key n p v (end_of p v) }
 {
-    let place = x.place;
-    let ways = x.ways;
-    let heads = place.heads;
-    let tails = place.tails;
-    let seen = place.words;
-    let last = place.last;
-    let slots = place.slots;
-    let threads = place.threads;
-    let sets = place.sets;
-    let first = sets_word(sets, near_word(class, last, &seen, &ways));
-    let second = with_pending(lefts_word(lengths, threads), &heads, &tails);
-    joined(first, second, waiting_of(slots, &heads, &tails), values)
+    let p = &x.place;
+    let near = near_word(class, &p.last, &p.words, &x.ways);
+    let lefts = lefts_word(lengths, &p.threads);
+    joined(
+        sets_word(p.sets, near),
+        with_pending(lefts, &p.heads, &p.tails),
+        waiting_of(&p.slots, &p.heads, &p.tails),
+        values,
+    )
 }
 
 // The key of the position that this spot is: its first so many words, whatever number of words it fits.
-pub fn key(lengths: &[usize; 6], class: &[usize; 6], masks: &[u8; 96], x: Spot) -> [u64; 27]
+pub fn key(lengths: &[usize; 6], class: &[usize; 6], masks: &[u8; 96], x: &Spot) -> [u64; 27]
     requires { (code : List ℕ) × (threads : ℕ) × (groups : ℕ) × (p : Program) × (v : Schedule)
-        × Stands code lengths.now class.now threads groups x p v }
+        × Stands code lengths.now class.now threads groups x.now p v }
     ensures { (code : List ℕ) (threads groups n : ℕ) (p : Program) (v : Schedule)
-        → Stands code lengths.now class.now threads groups x p v → Live code lengths.now masks.now
+        → Stands code lengths.now class.now threads groups x.now p v → Live code lengths.now masks.now
         → length (words_of (key_of p v (end_of p v))) ≤ n → n ≤ 27 → take n result ≡ word_key n p v (end_of p v) }
 {
-    let place = x.place;
-    let threads = place.threads;
-    let memory = place.memory;
-    let values = values_of(lengths, masks, threads, memory);
+    let values = values_of(lengths, masks, x.place.threads, x.place.memory);
     words_of(lengths, class, x, values)
 }

@@ -19,7 +19,7 @@ use Rattle.machine.specs.declared.state.LastWrite.{LastWrite}
 use Rattle.machine.specs.declared.state.Machine.{Machine}
 use Rattle.machine.specs.declared.stepping.After.{After}
 use Rattle.machine.specs.Held as Core
-use Rattle.machine.specs.Held.{idle, unwritten, thread_at, last_at, thread_after, whole, ReadyThread}
+use Rattle.machine.specs.Held.{idle, unwritten, thread_at, last_at, whole, ReadyThread}
 use Rattle.spec_tso.specs.Queue.{newest}
 use Rattle.spec_tso.specs.State.{State, access, move, thread_of, cell_of, unqueued, first_locks, locked, finds, number_of, reaches, place, step_of, able, kind_of, owner, byte_for, enabled}
 use Rattle.spec_tso.specs.Actions.{reading, locking}
@@ -29,6 +29,7 @@ use Rattle.tso_machine.specs.declared.state.Pending.{Pending}
 use Rattle.tso_machine.specs.declared.state.QueuedMachine.{QueuedMachine}
 use Rattle.tso_machine.specs.declared.looking.Sight.{Sight}
 use Rattle.tso_machine.specs.declared.meeting.Met.{Met}
+use Rattle.tso_machine.specs.declared.stepping.Act.{Act}
 use Rattle.tso_machine.specs.declared.stepping.Change.{Change}
 use Rattle.tso_machine.specs.declared.stepping.Stepped.{Stepped}
 use Rattle.tso_machine.specs.Slots.{no_store, queue_at}
@@ -43,18 +44,16 @@ use Rattle.tso_machine.proofs.HeldStep.{once_none, once_store, once_locked, hold
 pub ready_row : (lengths : List ℕ) (k : ThreadState) (t u : ℕ) → ReadyThread lengths k t → u ≡ t → u * 16 + k.at < 96
 ready_row lengths k t u r e = omega (arith, e, r.six, r.sixteen, r.left)
 
-module _ (code lengths : List ℕ) (m : QueuedMachine) (b : ℕ) (may : MayStep code lengths m b) (u : ℕ) (eu : u ≡ owner b) where
-  pub step_six : u < 6
-  step_six = subst (λ (v : ℕ). v < 6) (sym eu) (enabled_small may.state b may.may)
+-- b's thread as the code has it, u, is one of the six
+pub step_six : {code lengths : List ℕ} {m : QueuedMachine} {b t u : ℕ} → MayStep code lengths m b → t ≡ owner b → u ≡ t → u < 6
+step_six may et eu = subst (λ (v : ℕ). v < 6) (sym (eu ∙ et)) (enabled_small may.state _ may.may)
 
-  pub step_thread : b < 16 → ReadyThread lengths (thread_at (core_of m) u) b
-  step_thread low = subst (λ (v : ℕ). ReadyThread lengths (thread_at (core_of m) v) b) (sym (eu ∙ (owner_access b (kind_low b low)).0)) (access_ready code lengths m may.state b may.holds low may.may)
-
-  pub step_tail : tail_at m u ≤ 16
-  step_tail = omega (arith, tail_below may.holds u step_six)
-
-  pub step_head : head_at m u ≤ 16
-  step_head = omega (arith, may.holds.ordered u step_six, step_tail)
+pub step_ready : {code lengths : List ℕ} {m : QueuedMachine} {b t u : ℕ} → MayStep code lengths m b → t ≡ owner b → u ≡ t
+    → (b < 16 → ReadyThread lengths (thread_at (core_of m) u) b) × (head_at m u ≤ 16) × (tail_at m u ≤ 16)
+step_ready {code} {lengths} {m} {b} {t} {u} may et eu =
+    let six : u < 6 = step_six may et eu in
+    let tail : tail_at m u ≤ 16 = omega (arith, tail_below may.holds u six) in
+    (λ low. subst (λ (v : ℕ). ReadyThread lengths (thread_at (core_of m) v) b) (sym (eu ∙ et ∙ (owner_access b (kind_low b low)).0)) (access_ready code lengths m may.state b may.holds low may.may), omega (arith, may.holds.ordered u six), tail)
 
 -- ---- an access by itself, of a thread, memory, last writes and a queue that are the machine's
 pub met_code : (code lengths : List ℕ) (m : QueuedMachine) (t u : ℕ) → u ≡ t → (p w : ℕ) → w ≡ p → (f : Sight) (a : After) (b : Bool) (P : Parts) → parts_of m t ≡ P
@@ -65,13 +64,13 @@ pub met_code : (code lengths : List ℕ) (m : QueuedMachine) (t u : ℕ) → u �
     → b ≡ first_locks (instruction_at code (u * 16 + P.thread.at) ∷ [])
     → (σ : State) → Holds code lengths m σ → t < 16 → enabled σ t ≡ true → place σ access t < 8
     → HoldsMet code lengths σ t (record {
-      thread = thread_after a;
+      thread = a.thread;
       source = f.source;
       value = get_or a.memory (w % 8) 0;
       location = p;
-      reads = eqb a.reads 1;
+      reads = a.reads;
       locks = b;
-      writes = eqb a.writes 1;
+      writes = a.writes;
       own = f.own;
     })
 met_code code lengths m t u eu p w ew f a b P eP ep ef acts eb σ held low ok near =
@@ -90,10 +89,9 @@ met_code code lengths m t u eu p w ew f a b P eP ep ef acts eb σ held low ok ne
         → Core.HoldsStep code lengths ρ t (whole k t t a))
         × (b ≡ first_locks (instruction_at code (u * 16 + Q.thread.at) ∷ []))
 
--- an access that did this, with this machine behind it
-abbrev did : QueuedMachine → ℕ → Met → Bool → Stepped
-did m number a b = record {
-  machine = m;
+-- what an access did
+abbrev act_of : ℕ → Met → Bool → Act
+act_of number a b = record {
   source = a.source;
   number = number;
   location = a.location;
@@ -101,6 +99,13 @@ did m number a b = record {
   locks = a.locks;
   puts = b;
   own = a.own;
+}
+
+-- an access that did this, with this machine behind it
+abbrev did : QueuedMachine → ℕ → Met → Bool → Stepped
+did m number a b = record {
+  machine = m;
+  act = act_of number a b;
 }
 
 -- one machine for another, array by array
@@ -202,15 +207,9 @@ module _ (code lengths : List ℕ) (m : QueuedMachine) (σ : State) (t : ℕ) (h
       place = l;
       slot = e;
       at = j;
-      source = a.source;
       head = P.head;
       tail = n;
-      number = P.thread.done;
-      location = a.location;
-      reads = a.reads;
-      locks = a.locks;
-      puts = x;
-      own = a.own;
+      act = act_of P.thread.done a x;
     }
 
     change_here : (v : ℕ) (w : LastWrite) (e : Pending) (n : ℕ) → Stores (parts_of m t) v w e n → HoldsStep code lengths σ t (behind m t (change (parts_of m t) v w e n))
@@ -253,15 +252,9 @@ pub access_code : (code lengths : List ℕ) (m : QueuedMachine) (σ : State) (t 
       place = i % 8;
       slot = e;
       at = k % 16;
-      source = a.source;
       head = P.head;
       tail = n;
-      number = P.thread.done;
-      location = a.location;
-      reads = a.reads;
-      locks = a.locks;
-      puts = x;
-      own = a.own;
+      act = act_of P.thread.done a x;
     }))
 access_code code lengths m σ t held low ok near a met P eP i k ei ek x y ex ey v w e n ev ew ee en =
     let tail : k ≡ tail_at m t = ek ∙ sym (ap (λ (Q : Parts). Q.tail) eP) in
@@ -287,17 +280,19 @@ module _ (code lengths : List ℕ) (m : QueuedMachine) (σ : State) (t : ℕ) (h
     slots = m.slots;
   }
 
-  abbrev moving : QueuedMachine → ℕ → Stepped
-  moving n k = record {
-    machine = n;
+  abbrev act_moving : Pending → Act
+  act_moving e = record {
     source = record { thread = 255; number = 255 };
-    number = (slot_at m k).number;
-    location = (slot_at m k).location;
+    number = e.number;
+    location = e.location;
     reads = false;
     locks = false;
     puts = true;
     own = false;
   }
+
+  abbrev moving : QueuedMachine → ℕ → Stepped
+  moving n k = record { machine = n; act = act_moving (slot_at m k) }
 
   moving_held : (l : ℕ) → l ≡ (slot_at m (head_at m t)).location → HoldsStep code lengths σ (byte_for move t) (moving (moving_machine l) (head_at m t))
   unfolding reading locking source_of own_of initial_write given
@@ -315,15 +310,9 @@ module _ (code lengths : List ℕ) (m : QueuedMachine) (σ : State) (t : ℕ) (h
     place = l;
     slot = get_or P.slots k no_store;
     at = k;
-    source = record { thread = 255; number = 255 };
     head = P.head + 1;
     tail = P.tail;
-    number = (get_or P.slots k no_store).number;
-    location = (get_or P.slots k no_store).location;
-    reads = false;
-    locks = false;
-    puts = true;
-    own = false;
+    act = act_moving (get_or P.slots k no_store);
   }
 
   move_here : (k l : ℕ) → k ≡ head_at m t → l ≡ (slot_at m k).location → HoldsStep code lengths σ (byte_for move t) (behind m t (move_change (parts_of m t) k l))

@@ -1,14 +1,11 @@
 -- The state before the first step: nothing is pending, and each thread has as many slots as accesses.
-use Prim.Native.Nat.{ℕ, ◌+◌, ◌-◌, ◌<◌, ◌≤◌}
+use Prim.Native.Nat.{ℕ, ◌+◌, ◌-◌, ◌<◌, ◌≤◌, min}
 use native.Mathlib.Omega.{arith}
 use native.Mathlib.Decide.{dec_lt, ℕ_discrete}
 use mathlib.Core.Path.{◌≡◌, sym, ap, subst, ◌∙◌}
-use mathlib.Core.Bool.{Bool, cond}
 use mathlib.Core.List.{List, []}
-use lib.Dec.{ltb}
 use lib.ListN.{length, get_or, set, replicate, length-replicate, get_or-replicate, get_or-eq_default}
 use lib.Seq.{get_or-set_same, get_or-set_other}
-use borrow.Author.Tests.{lt-ltb, le-ltb}
 use Rattle.spec_schedules.proofs.Group.{get_d_any}
 use Rattle.spec_file.specs.Program.{Program}
 use Rattle.spec_file.specs.WellFormed.{accesses, all_accesses}
@@ -33,16 +30,6 @@ use Rattle.machine_access.specs.Counted.{accesses_below}
 use Rattle.tso_machine.specs.Counted.{HoldsFirst}
 use Rattle.tso_machine.proofs.InSlots.{queue_none}
 use Rattle.machine_access.proofs.HeldCounting.{below_next}
-
--- the smaller of two numbers of threads
-abbrev pub least : ℕ → ℕ → ℕ
-least a b = cond (ltb a b) a b
-
-pub least_first : (a b : ℕ) → a < b → least a b ≡ a
-least_first a b h = ap (λ (x : Bool). cond x a b) (lt-ltb a b h)
-
-pub least_second : (a b : ℕ) → b ≤ a → least a b ≡ b
-least_second a b h = ap (λ (x : Bool). cond x a b) (le-ltb a b h)
 
 module _ (code lengths : List ℕ) (threads : ℕ) (p : Program) (loaded : Loaded code lengths threads p) (few : all_accesses p.threads ≤ 16)
     (m : Machine) (held : Core.Holds code lengths m (SC.start p)) (first : List ℕ) (firsts : HoldsFirst code lengths threads first) where
@@ -101,33 +88,25 @@ module _ (code lengths : List ℕ) (threads : ℕ) (p : Program) (loaded : Loade
   below k = accesses_below code lengths k
 
   -- thread t's slots end where those of t + 1 would begin
-  behind : (t : ℕ) → Dec (t < threads) → below (least threads t) + accesses (thread_of (start p) t).local.rest ≤ below (least threads (t + 1))
+  behind : (t : ℕ) → Dec (t < threads) → below (min threads t) + accesses (thread_of (start p) t).local.rest ≤ below (min threads (t + 1))
   behind t (yes h) =
       omega (
         arith,
-        ap below (least_second threads t (omega arith)),
-        ap below (least_second threads (t + 1) (omega arith)),
+        ap below (let e : min threads t ≡ t = omega arith in e),
+        ap below (let e : min threads (t + 1) ≡ t + 1 = omega arith in e),
         below_next code lengths t,
         own_left t h,
       )
   behind t (no h) =
       omega (
         arith,
-        ap below (before (ℕ_discrete threads t)),
-        ap below (least_first threads (t + 1) (omega (arith, h))),
+        ap below (let e : min threads t ≡ threads = omega (arith, h) in e),
+        ap below (let e : min threads (t + 1) ≡ threads = omega (arith, h) in e),
         none_left t (omega (arith, h)),
       )
-    where
-      before : Dec (threads ≡ t) → least threads t ≡ threads
-      before (yes e) = least_second threads t (omega (arith, e)) ∙ sym e
-      before (no e) = least_first threads t (omega (arith, h, e))
 
-  last_slots : below (least threads 6) ≡ all_accesses p.threads
-  last_slots = go (ℕ_discrete threads 6)
-    where
-      go : Dec (threads ≡ 6) → below (least threads 6) ≡ all_accesses p.threads
-      go (yes e) = ap below (least_second threads 6 (omega (arith, e)) ∙ sym e) ∙ accesses_held code lengths threads p loaded
-      go (no e) = ap below (least_first threads 6 (omega (arith, e, at_most_six))) ∙ accesses_held code lengths threads p loaded
+  last_slots : below (min threads 6) ≡ all_accesses p.threads
+  last_slots = ap below (let e : min threads 6 ≡ threads = omega (arith, at_most_six) in e) ∙ accesses_held code lengths threads p loaded
 
   room : (t : ℕ) → t < 6 → Dec (t + 1 < 6) → get_or first t 0 + accesses (thread_of (start p) t).local.rest ≤ get_or first (t + 1) 16
   room t h (yes b) =
@@ -144,7 +123,7 @@ module _ (code lengths : List ℕ) (threads : ℕ) (p : Program) (loaded : Loade
         arith,
         firsts.each t h,
         behind t (dec_lt t threads),
-        ap (λ (k : ℕ). below (least threads k)) z,
+        ap (λ (k : ℕ). below (min threads k)) z,
         last_slots,
         few,
         get_or-eq_default first 16 {n = t + 1} (omega (arith, z, firsts.size)),
@@ -166,25 +145,14 @@ module _ (code lengths : List ℕ) (threads : ℕ) (p : Program) (loaded : Loade
   }
 
 -- where the slots begin, one thread after the other
-pub first_more : (code lengths : List ℕ) (threads : ℕ) (first : List ℕ) (t v : ℕ) → length first ≡ 6 → t < 6 → v ≡ accesses_below code lengths (least threads t)
-    → ((u : ℕ) → u < t → get_or first u 0 ≡ accesses_below code lengths (least threads u)) → (u : ℕ) → u < t + 1 → get_or (set first t v) u 0 ≡ accesses_below code lengths (least threads u)
+pub first_more : (code lengths : List ℕ) (threads : ℕ) (first : List ℕ) (t v : ℕ) → length first ≡ 6 → t < 6 → v ≡ accesses_below code lengths (min threads t)
+    → ((u : ℕ) → u < t → get_or first u 0 ≡ accesses_below code lengths (min threads u)) → (u : ℕ) → u < t + 1 → get_or (set first t v) u 0 ≡ accesses_below code lengths (min threads u)
 first_more code lengths threads first t v n h e before u b = go (ℕ_discrete u t)
   where
-    go : Dec (u ≡ t) → get_or (set first t v) u 0 ≡ accesses_below code lengths (least threads u)
-    go (yes q) = ap (λ (k : ℕ). get_or (set first t v) k 0) q ∙ get_or-set_same first t v 0 (omega arith) ∙ e ∙ ap (λ (k : ℕ). accesses_below code lengths (least threads k)) (sym q)
+    go : Dec (u ≡ t) → get_or (set first t v) u 0 ≡ accesses_below code lengths (min threads u)
+    go (yes q) = ap (λ (k : ℕ). get_or (set first t v) k 0) q ∙ get_or-set_same first t v 0 (omega arith) ∙ e ∙ ap (λ (k : ℕ). accesses_below code lengths (min threads k)) (sym q)
     go (no q) = get_or-set_other first t u v 0 q ∙ before u (omega (arith, q))
 
 -- what counting the first of them needs
-module _ (code lengths : List ℕ) (threads : ℕ) (p : Program) (loaded : Loaded code lengths threads p) (t k : ℕ) (e : k ≡ least threads t) where
-  k_threads : (k ≤ threads) × (k ≤ t)
-  k_threads = go (dec_lt threads t)
-    where
-      go : Dec (threads < t) → (k ≤ threads) × (k ≤ t)
-      go (yes h) = (omega (arith, e, least_first threads t h), omega (arith, h, e, least_first threads t h))
-      go (no h) = (omega (arith, h, e, least_second threads t (omega (arith, h))), omega (arith, e, least_second threads t (omega (arith, h))))
-
-  pub first_below : t < 6 → k ≤ 6
-  first_below h = omega (arith, k_threads.1)
-
-  pub first_short : (u : ℕ) → u < k → get_or lengths u 0 ≤ 16
-  first_short u h = short_held code lengths threads p loaded u (omega (arith, k_threads.0))
+pub first_short : {code lengths : List ℕ} {threads : ℕ} {p : Program} → Loaded code lengths threads p → (k t u : ℕ) → k ≡ min threads t → u < k → get_or lengths u 0 ≤ 16
+first_short loaded k t u e h = short_held _ _ _ _ loaded u (omega arith)

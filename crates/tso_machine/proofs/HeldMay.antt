@@ -91,20 +91,18 @@ module _ {code lengths : List ℕ} {m : QueuedMachine} {σ : State} (held : Hold
     unfolding locked unqueued
     locked_held = ap first_locks ((core_thread held t h).rest ∙ code_at_lem code t (get_or lengths t 0) (thread_at (core_of m) t).at l) ∙ first_locks_lem _ _
 
-    pub locks_held : (b : Bool) → b ≡ first_locks (instruction_at code (t * 16 + (thread_at (core_of m) t).at) ∷ []) → b ≡ true
-        → not (ltb (head_at m t) (tail_at m t)) ≡ able access (thread_of σ t) (length σ.cells)
-    locks_held b e q =
-        sym (able_by (thread_of σ t) (length σ.cells) true (not (ltb (head_at m t) (tail_at m t))) (left_pending held t h l)
-        (free_locked (locked (thread_of σ t).local) (thread_of σ t).queue (locked_held ∙ sym e ∙ q) ∙ empty_held t h))
-
-    pub plain_held : (b : Bool) → b ≡ first_locks (instruction_at code (t * 16 + (thread_at (core_of m) t).at) ∷ []) → b ≡ false
-        → true ≡ able access (thread_of σ t) (length σ.cells)
-    plain_held b e q =
+    -- with something pending it may step unless it is locked
+    pub pending_held : head_at m t < tail_at m t → (b : Bool) → b ≡ first_locks (instruction_at code (t * 16 + (thread_at (core_of m) t).at) ∷ [])
+        → not b ≡ able access (thread_of σ t) (length σ.cells)
+    pending_held z true e =
+        sym (able_by (thread_of σ t) (length σ.cells) true false (left_pending held t h l)
+        (free_locked (locked (thread_of σ t).local) (thread_of σ t).queue (locked_held ∙ sym e) ∙ empty_held t h ∙ ap not (lt-ltb (head_at m t) (tail_at m t) z)))
+    pending_held z false e =
         sym (able_by (thread_of σ t) (length σ.cells) true true (left_pending held t h l)
-        (free_is (locked (thread_of σ t).local) (thread_of σ t).queue (λ z. absurd (true≢false (sym z ∙ locked_held ∙ sym e ∙ q)))))
+        (free_is (locked (thread_of σ t).local) (thread_of σ t).queue (λ q. absurd (true≢false (sym q ∙ locked_held ∙ sym e)))))
 
     -- with nothing pending it may step
-    idle_held : tail_at m t ≤ head_at m t → able access (thread_of σ t) (length σ.cells) ≡ true
+    pub idle_held : tail_at m t ≤ head_at m t → able access (thread_of σ t) (length σ.cells) ≡ true
     idle_held z = able_by (thread_of σ t) (length σ.cells) true true (left_pending held t h l)
         (free_is (locked (thread_of σ t).local) (thread_of σ t).queue (λ e. (empty_is _ (queue_empty t h z)).0))
 

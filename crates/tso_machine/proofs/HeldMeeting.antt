@@ -31,7 +31,7 @@ use Rattle.machine.specs.declared.state.LastWrite.{LastWrite}
 use Rattle.machine.specs.declared.state.Machine.{Machine}
 use Rattle.machine.specs.declared.stepping.After.{After}
 use Rattle.machine.specs.Held as Core
-use Rattle.machine.specs.Held.{thread_at, last_at, idle, event_of, thread_after, whole, HoldsThread, ReadyThread}
+use Rattle.machine.specs.Held.{thread_at, last_at, idle, event_of, whole, HoldsThread, ReadyThread}
 use Rattle.spec_tso.specs.Queue.{Entry, newest, found_in}
 use Rattle.spec_tso.specs.State.{Thread, State, access, thread_of, cell_of, unqueued, without_queues, first_locks, locked, finds, target, thread_behind, place, able, enabled}
 use Rattle.spec_tso.proofs.Bytes.{kind_low, owner_access}
@@ -276,17 +276,17 @@ module _ (code lengths : List ℕ) (m : QueuedMachine) (σ : State) (t : ℕ) (h
           ∙ SCChange.noted_done (takes (SC.thread_of τ t).local) (latest (SC.cell_of τ (SC.place τ t)).writes) (SC.thread_of τ t).history
           ∙ ap suc same_done ∙ sym (access_done t h c)
 
-      stored : get_or (set m.threads t (thread_after a)) t idle ≡ thread_after a
-      stored = get_or-set_same m.threads t (thread_after a) idle (omega (arith, access_six, held.core.sizes.0))
+      stored : get_or (set m.threads t a.thread) t idle ≡ a.thread
+      stored = get_or-set_same m.threads t a.thread idle (omega (arith, access_six, held.core.sizes.0))
 
-      thread_held : HoldsThread (thread_code code t (get_or lengths t 0)) (thread_after a) (unqueued (thread_behind access t h c))
+      thread_held : HoldsThread (thread_code code t (get_or lengths t 0)) a.thread (unqueued (thread_behind access t h c))
       unfolding n unqueued
       thread_held =
           subst (λ (k : ThreadState). HoldsThread (thread_code code t (get_or lengths t 0)) k (unqueued (thread_behind access t h c))) stored
-          (alike_held (thread_code code t (get_or lengths t 0)) (get_or (set m.threads t (thread_after a)) t idle) (SC.thread_of (SC.step τ t) t) (unqueued (thread_behind access t h c))
+          (alike_held (thread_code code t (get_or lengths t 0)) (get_or (set m.threads t a.thread) t idle) (SC.thread_of (SC.step τ t) t) (unqueued (thread_behind access t h c))
           behind_local behind_done (stepped.holds.threads t access_six))
 
-      registers_held : (thread_behind access t h c).local.registers ≡ a.registers
+      registers_held : (thread_behind access t h c).local.registers ≡ a.thread.registers
       unfolding n
       registers_held =
           ap (λ (k : Local). k.registers) (sym behind_local)
@@ -299,10 +299,10 @@ module _ (code lengths : List ℕ) (m : QueuedMachine) (σ : State) (t : ℕ) (h
       same_put : puts (SC.thread_of τ t).local (SC.cell_of τ (SC.place τ t)).value ≡ put
       same_put = ap (λ (k : Local). puts k (SC.cell_of τ (SC.place τ t)).value) same_local_lem ∙ ap (puts h.local) met_value
 
-      writes_held : eqb a.writes 1 ≡ given put
+      writes_held : a.writes ≡ given put
       unfolding SCActions.writes n
       writes_held =
-          ap (λ (bs : List ℕ). eqb (get_or bs 6 0) 1) stepped.noted ∙ byte_wrote (note τ t) ∙ noted_wrote τ t ∙ ap given same_put
+          sym (flag a.writes) ∙ ap (λ (bs : List ℕ). eqb (get_or bs 6 0) 1) stepped.noted ∙ byte_wrote (note τ t) ∙ noted_wrote τ t ∙ ap given same_put
 
       value_held : (v : ℕ) → put ≡ some v → get_or a.memory l 0 ≡ v
       unfolding n
@@ -310,26 +310,26 @@ module _ (code lengths : List ℕ) (m : QueuedMachine) (σ : State) (t : ℕ) (h
           sym (stepped.holds.values l (omega (arith, el, below_eight)))
           ∙ (SCChange.wrote_own τ t l v (omega (arith, shown_near, shown_held.eight)) (sym shown_place) (same_put ∙ e)).1
 
-      puts_held : put ≡ cond (eqb a.writes 1) (some (get_or a.memory l 0)) none
+      puts_held : put ≡ cond a.writes (some (get_or a.memory l 0)) none
       unfolding given
       puts_held = go put refl
         where
-          go : (o : Option ℕ) → put ≡ o → put ≡ cond (eqb a.writes 1) (some (get_or a.memory l 0)) none
+          go : (o : Option ℕ) → put ≡ o → put ≡ cond a.writes (some (get_or a.memory l 0)) none
           go none e = e ∙ sym (ap (λ (b : Bool). cond b (some (get_or a.memory l 0)) none) (writes_held ∙ ap given e))
           go (some v) e = e ∙ ap some (sym (value_held v e)) ∙ sym (ap (λ (b : Bool). cond b (some (get_or a.memory l 0)) none) (writes_held ∙ ap given e))
 
-      reads_held : eqb a.reads 1 ≡ takes h.local
+      reads_held : a.reads ≡ takes h.local
       unfolding note_bytes note n
-      reads_held = ap (λ (bs : List ℕ). eqb (get_or bs 3 0) 1) stepped.noted ∙ flag (takes (SC.thread_of τ t).local) ∙ ap takes same_local_lem
+      reads_held = sym (flag a.reads) ∙ ap (λ (bs : List ℕ). eqb (get_or bs 3 0) 1) stepped.noted ∙ flag (takes (SC.thread_of τ t).local) ∙ ap takes same_local_lem
 
       pub met_held : (b : Bool) → b ≡ first_locks (x ∷ []) → HoldsMet code lengths σ t (record {
-        thread = thread_after a;
+        thread = a.thread;
         source = f.source;
         value = get_or a.memory l 0;
         location = p;
-        reads = eqb a.reads 1;
+        reads = a.reads;
         locks = b;
-        writes = eqb a.writes 1;
+        writes = a.writes;
         own = f.own;
       })
       met_held b eb = record {

@@ -347,8 +347,8 @@ module _ (code lengths : List ℕ) (σ : State) (b : ℕ) (k : Kind) (t : ℕ) (
   unfolding action
   same_action = sym (ap₂ action_by ek eo)
 
-  pub step_by_lem : (r : Stepped) → Holds code lengths r.machine (step_of σ k t) → r.number ≡ number_of k (thread_of σ t) → r.location ≡ place σ k t → r.reads ≡ reading k (thread_of σ t)
-      → r.locks ≡ locking k (thread_of σ t) → r.puts ≡ given (putting σ k t) → event_of r.source ≡ source_of k t (thread_of σ t) (cell_of σ (place σ k t)) → r.own ≡ own_of k (thread_of σ t)
+  pub step_by_lem : (r : Stepped) → Holds code lengths r.machine (step_of σ k t) → r.act.number ≡ number_of k (thread_of σ t) → r.act.location ≡ place σ k t → r.act.reads ≡ reading k (thread_of σ t)
+      → r.act.locks ≡ locking k (thread_of σ t) → r.act.puts ≡ given (putting σ k t) → event_of r.act.source ≡ source_of k t (thread_of σ t) (cell_of σ (place σ k t)) → r.act.own ≡ own_of k (thread_of σ t)
       → HoldsStep code lengths σ b r
   unfolding action_of place
   step_by_lem r holds number location reads locks puts source own = record {

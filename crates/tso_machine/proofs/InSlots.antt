@@ -3,15 +3,16 @@ use Prim.Native.Nat.{ℕ, zero, suc, ◌+◌, ◌-◌, ◌<◌, ◌≤◌}
 use native.Mathlib.Omega.{arith}
 use mathlib.Core.Path.{◌≡◌, refl, sym, ap, ap₂, ◌∙◌}
 use mathlib.Core.Logic.{◌≢◌, ◌⊎◌, inl, inr}
-use mathlib.Core.Option.{none, some}
+use mathlib.Core.Option.{some}
+use Rattle.std.proofs.Common.{Some, None}
 use mathlib.Core.List.{List, [], ◌∷◌, ◌++◌}
-use borrow.Author.Tests.{eq-eqb, ne_eqb, lt-ltb, le-ltb}
+use borrow.Author.Tests.{eq-eqb, ne_eqb}
 use lib.ListN.{length, get_or, set}
 use lib.Seq.{get_or-set_same, get_or-set_other}
 use Rattle.spec_schedules.specs.Lists.{range}
 use Rattle.spec_tso.specs.Queue.{Entry, newest}
 use Rattle.tso_machine.specs.declared.state.Pending.{Pending}
-use Rattle.tso_machine.specs.Slots.{no_store, entry_of, entry_at, queue_at, entry_in}
+use Rattle.tso_machine.specs.Slots.{no_store, entry_of, entry_at, queue_at, store_of}
 
 pub queue_none : (slots : List Pending) (from : ℕ) → queue_at slots from 0 ≡ []
 unfolding queue_at range
@@ -62,40 +63,22 @@ unfolding newest
 newest_other [] x l e = let z = ne_eqb x.location l e in rw (z, newest)
 newest_other (y ∷ q) x l e = let z = newest_other q x l e in rw (z, newest)
 
--- looked for from the last on: it is the last, or it is before that
-newest_here : (slots : List Pending) (from n k l : ℕ) → k ≡ from + n → k < 16 → (get_or slots k no_store).location ≡ l → newest (queue_at slots from (suc n)) l ≡ entry_in slots k
-unfolding entry_in entry_at
-newest_here slots from n k l e h q =
-    ap (λ (z : List Entry). newest z l) (queue_last slots from n k e) ∙ newest_last (queue_at slots from n) (entry_at slots k) l q ∙ rw (lt-ltb k 16 h)
-
-newest_before : (slots : List Pending) (from n k l : ℕ) → k ≡ from + n → (get_or slots k no_store).location ≢ l → newest (queue_at slots from (suc n)) l ≡ newest (queue_at slots from n) l
-unfolding entry_at
-newest_before slots from n k l e q = ap (λ (z : List Entry). newest z l) (queue_last slots from n k e) ∙ newest_other (queue_at slots from n) (entry_at slots k) l q
-
-newest_nothing : (slots : List Pending) (from l : ℕ) → newest (queue_at slots from 0) l ≡ entry_in slots 16
-unfolding newest entry_in
-newest_nothing slots from l = ap (λ (z : List Entry). newest z l) (queue_none slots from)
-
-pub entry_in_lem : (slots : List Pending) (k : ℕ) → k < 16 → entry_in slots k ≡ some (entry_of (get_or slots k no_store))
-unfolding entry_in entry_at
-entry_in_lem slots k h = rw (lt-ltb k 16 h)
-
-pub entry_out : (slots : List Pending) (k : ℕ) → 16 ≤ k → entry_in slots k ≡ none
-unfolding entry_in
-entry_out slots k h = rw (le-ltb k 16 h)
-
--- ---- as the code looks for it, from slot k back
-pub look_here : (slots : List Pending) (head k l : ℕ) → head < k → k ≤ 16 → (get_or slots (k - 1) no_store).location ≡ l → newest (queue_at slots head (k - head)) l ≡ entry_in slots (k - 1)
-look_here slots head k l h b q =
+-- ---- as the code looks for it, from behind slot k - 1 back: it is there, or before it
+up_to : (slots : List Pending) (head k l : ℕ) → head < k → newest (queue_at slots head (k - head)) l ≡ newest (queue_at slots head (k - 1 - head) ++ (entry_at slots (k - 1) ∷ [])) l
+up_to slots head k l h =
     let z : k - head ≡ suc (k - 1 - head) = omega arith in
-    ap (λ (n : ℕ). newest (queue_at slots head n) l) z ∙ newest_here slots head (k - 1 - head) (k - 1) l (omega arith) (omega arith) q
+    ap (λ (n : ℕ). newest (queue_at slots head n) l) z ∙ ap (λ (q : List Entry). newest q l) (queue_last slots head (k - 1 - head) (k - 1) (omega arith))
+
+pub look_here : (slots : List Pending) (head k l : ℕ) → head < k → (get_or slots (k - 1) no_store).location ≡ l → newest (queue_at slots head (k - head)) l ≡ store_of (Some (get_or slots (k - 1) no_store))
+unfolding entry_at store_of
+look_here slots head k l h q = up_to slots head k l h ∙ newest_last (queue_at slots head (k - 1 - head)) (entry_at slots (k - 1)) l q
 
 pub look_before : (slots : List Pending) (head k l : ℕ) → head < k → (get_or slots (k - 1) no_store).location ≢ l → newest (queue_at slots head (k - head)) l ≡ newest (queue_at slots head (k - 1 - head)) l
-look_before slots head k l h q =
-    let z : k - head ≡ suc (k - 1 - head) = omega arith in
-    ap (λ (n : ℕ). newest (queue_at slots head n) l) z ∙ newest_before slots head (k - 1 - head) (k - 1) l (omega arith) q
+unfolding entry_at
+look_before slots head k l h q = up_to slots head k l h ∙ newest_other (queue_at slots head (k - 1 - head)) (entry_at slots (k - 1)) l q
 
-pub look_nothing : (slots : List Pending) (head k l : ℕ) → k ≤ head → newest (queue_at slots head (k - head)) l ≡ entry_in slots 16
+pub look_nothing : (slots : List Pending) (head k l : ℕ) → k ≤ head → newest (queue_at slots head (k - head)) l ≡ store_of None
+unfolding newest store_of
 look_nothing slots head k l h =
     let z : k - head ≡ 0 = omega arith in
-    ap (λ (n : ℕ). newest (queue_at slots head n) l) z ∙ newest_nothing slots head l
+    ap (λ (n : ℕ). newest (queue_at slots head n) l) z ∙ ap (λ (q : List Entry). newest q l) (queue_none slots head)

@@ -1,6 +1,6 @@
 -- A queue as it stands in an array of slots: oldest first, from one slot on.
-use Rattle.std.specs.Prelude.{ℕ, cond, List, map, ltb, get_or}
-use Rattle.std.proofs.Math.Option.{Option, none, some}
+use Rattle.std.specs.Prelude.{ℕ, List, map, get_or, Option, Some, None}
+use Rattle.std.proofs.Math.Option as Math
 use Rattle.spec_schedules.specs.Lists.{range}
 use Rattle.spec_tso.specs.Queue.{Entry}
 use Rattle.tso_machine.specs.declared.state.Pending.{Pending}
@@ -20,6 +20,7 @@ entry_at slots k = entry_of (get_or slots k no_store)
 unfoldable pub queue_at : List Pending → ℕ → ℕ → List Entry
 queue_at slots from n = map (entry_at slots) (range from n)
 
--- the store in slot k, if that is one of the sixteen
-unfoldable pub entry_in : List Pending → ℕ → Option Entry
-entry_in slots k = cond (ltb k 16) (some (entry_at slots k)) none
+-- the store that the code finds, if any
+unfoldable pub store_of : Option Pending → Math.Option Entry
+store_of (Some e) = Math.some (entry_of e)
+store_of None = Math.none

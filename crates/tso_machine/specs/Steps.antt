@@ -2,7 +2,7 @@
 use Rattle.std.specs.Prelude.{ℕ, ◌≡◌, Bool, false, cond, List, get_or, set}
 use Rattle.std.proofs.Math.Option.{none, some}
 use Rattle.file_rows.specs.Rows.{thread_code}
-use Rattle.spec_sc.specs.Local.{place_of, takes, puts, next}
+use Rattle.spec_sc.specs.Local.{place_of, takes, puts}
 use Rattle.spec_sc.specs.State.{Event, Cell, initial_write}
 use Rattle.machine.specs.Held.{event_of, HoldsThread}
 use Rattle.spec_tso.specs.Queue.{newest}
@@ -46,13 +46,13 @@ pub record HoldsMet (code lengths : List ℕ) (σ : State) (t : ℕ) (a : Met) :
 -- what the step b leaves: the next state, and what it did
 pub record HoldsStep (code lengths : List ℕ) (σ : State) (b : ℕ) (r : Stepped) : Type 0 where
   pub holds : Holds code lengths r.machine (step σ b)
-  pub number : r.number ≡ (action σ b).event.1
-  pub location : r.location ≡ (action σ b).location
-  pub reads : r.reads ≡ (action σ b).reads
-  pub locks : r.locks ≡ (action σ b).locks
-  pub puts : r.puts ≡ (action σ b).puts
-  pub source : event_of r.source ≡ source_of (kind_of b) (owner b) (thread_of σ (owner b)) (cell_at σ b)
-  pub own : r.own ≡ own_of (kind_of b) (thread_of σ (owner b))
+  pub number : r.act.number ≡ (action σ b).event.1
+  pub location : r.act.location ≡ (action σ b).location
+  pub reads : r.act.reads ≡ (action σ b).reads
+  pub locks : r.act.locks ≡ (action σ b).locks
+  pub puts : r.act.puts ≡ (action σ b).puts
+  pub source : event_of r.act.source ≡ source_of (kind_of b) (owner b) (thread_of σ (owner b)) (cell_at σ b)
+  pub own : r.act.own ≡ own_of (kind_of b) (thread_of σ (owner b))
 
 -- the machine with a step's change stored in it, thread t being the u-th, and what the step did
 abbrev pub behind : QueuedMachine → ℕ → Change → Stepped
@@ -65,11 +65,5 @@ behind m u c = record {
     tails = set m.tails u c.tail;
     slots = set m.slots c.at c.slot;
   };
-  source = c.source;
-  number = c.number;
-  location = c.location;
-  reads = c.reads;
-  locks = c.locks;
-  puts = c.puts;
-  own = c.own;
+  act = c.act;
 }

@@ -7,8 +7,8 @@ ghost use Rattle.tso_machine.specs.Held.{core_of, head_at, tail_at, Holds};
 
 use crate::rows_of::locks_at;
 use crate::state::QueuedMachine;
+use file_decoder::Compiled;
 use file_lines::wide;
-use file_rows::Code;
 
 // Whether thread u, one of the six, has a pending store.
 pub(crate) fn pends(m: QueuedMachine, u: usize) -> bool
@@ -19,55 +19,39 @@ pub(crate) fn pends(m: QueuedMachine, u: usize) -> bool
 }
 
 // Whether thread t, which stands at this row of its code with this queue, may do its next access.
-pub fn may_access(code: &Code, lengths: &[usize; 6], at: usize, head: u8, tail: u8, t: u8) -> bool
-    requires { (t < 6) × (at < get_or lengths.now t 0 → get_or lengths.now t 0 ≤ 16) }
-    ensures { (m : QueuedMachine) (σ : State) → Holds code.now lengths.now m σ
+pub fn may_access(program: &Compiled, at: usize, head: u8, tail: u8, t: u8) -> bool
+    requires { (t < 6) × (at < get_or program.now.lengths t 0 → get_or program.now.lengths t 0 ≤ 16) }
+    ensures { (m : QueuedMachine) (σ : State) → Holds program.now.code program.now.lengths m σ
         → (thread_at (core_of m) t).at ≡ at → head_at m t ≡ head → tail_at m t ≡ tail
         → result ≡ able access (thread_of σ t) (length σ.cells) }
 {
     let u = wide(t);
-    if lengths[u] <= at {
-        return false;
-    }
-    if locks_at(code, u * 16 + at) {
-        return tail <= head;
-    }
-    true
+    at < program.lengths[u] && (tail <= head || !locks_at(&program.code, u * 16 + at))
 }
 
 // Whether the byte b may step: an access by a byte below 6, a move by one from 16 to 21.
-pub fn enabled(code: &Code, lengths: &[usize; 6], m: QueuedMachine, b: u8) -> bool
-    requires { (σ : State) × Holds code.now lengths.now m σ }
-    ensures { (σ : State) → Holds code.now lengths.now m σ → result ≡ enabled σ b }
+pub fn enabled(program: &Compiled, m: QueuedMachine, b: u8) -> bool
+    requires { (σ : State) × Holds program.now.code program.now.lengths m σ }
+    ensures { (σ : State) → Holds program.now.code program.now.lengths m σ → result ≡ enabled σ b }
 {
-    if b < 6 {
-        let u = wide(b);
-        let thread = m.threads[u];
-        return may_access(code, lengths, thread.at, m.heads[u], m.tails[u], b);
+    match b {
+        0..=5 => {
+            let u = wide(b);
+            may_access(program, m.threads[u].at, m.heads[u], m.tails[u], b)
+        }
+        16..=21 => pends(m, wide(b) - 16),
+        _ => false,
     }
-    if b < 16 {
-        return false;
-    }
-    if 22 <= b {
-        return false;
-    }
-    pends(m, wide(b) - 16)
 }
 
 // Whether no byte may step any more: all threads have ended and nothing is pending.
 pub fn ended_all(lengths: &[usize; 6], m: QueuedMachine) -> bool
     ensures { (code : List ℕ) (σ : State) → Holds code lengths.now m σ → result ≡ ended TSO σ }
 {
-    let mut t = 0;
-    while t < 6 {
-        let thread = m.threads[t];
-        if thread.at < lengths[t] {
+    for t in 0..6 {
+        if m.threads[t].at < lengths[t] || pends(m, t) {
             return false;
         }
-        if pends(m, t) {
-            return false;
-        }
-        t += 1;
     }
     true
 }

@@ -20,4 +20,4 @@ pub use asking::{enabled, ended_all, may_access};
 pub use rows_of::locks_at;
 pub use starting::started;
 pub use state::{Pending, QueuedMachine};
-pub use stepping::{Change, Stepped, lean_step, step, thread_of};
+pub use stepping::{Act, Change, Stepped, lean_step, step, thread_of};

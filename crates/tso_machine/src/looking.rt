@@ -1,7 +1,7 @@
 // What a thread finds at a location: its newest pending store there, else what memory holds.
 ghost use Rattle.std.specs.Prelude.{◌≡◌, ◌≤◌, ◌-◌};
 ghost use Rattle.spec_tso.specs.Queue.{newest};
-ghost use Rattle.tso_machine.specs.Slots.{queue_at, entry_in};
+ghost use Rattle.tso_machine.specs.Slots.{queue_at, store_of};
 ghost use Rattle.tso_machine.specs.Looked.{look_of};
 
 use crate::state::Pending;
@@ -16,20 +16,17 @@ pub struct Sight {
     pub own: bool,
 }
 
-// The slot of the newest store to l from `head` up to `tail`; 16 where there is none.
-fn newest_slot(slots: [Pending; 16], head: usize, tail: usize, l: u8) -> usize
+// The newest store to l in the slots from `head` up to `tail`, if there is one.
+fn newest(slots: [Pending; 16], head: usize, tail: usize, l: u8) -> Option<Pending>
     requires { tail ≤ 16 }
-    ensures { newest (queue_at slots head (tail - head)) l ≡ entry_in slots result }
+    ensures { newest (queue_at slots head (tail - head)) l ≡ store_of result }
 {
-    let mut k = tail;
-    while head < k {
-        k -= 1;
-        let e = slots[k];
-        if e.location == l {
-            return k;
+    for k in (head..tail).rev() {
+        if slots[k].location == l {
+            return Some(slots[k]);
         }
     }
-    16
+    None
 }
 
 // What thread t, with this queue, finds at l, where memory holds v, written by w.
@@ -45,21 +42,19 @@ pub(crate) fn look(
     requires { tail ≤ 16 }
     ensures { result ≡ look_of t (newest (queue_at slots head (tail - head)) l) v w }
 {
-    let k = newest_slot(slots, wide(head), wide(tail), l);
-    if k < 16 {
-        let s = slots[k];
-        return Sight {
+    match newest(slots, wide(head), wide(tail), l) {
+        Some(s) => Sight {
             value: s.value,
             source: LastWrite {
                 thread: t,
                 number: s.number,
             },
             own: true,
-        };
-    }
-    Sight {
-        value: v,
-        source: w,
-        own: false,
+        },
+        None => Sight {
+            value: v,
+            source: w,
+            own: false,
+        },
     }
 }

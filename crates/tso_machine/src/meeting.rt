@@ -9,8 +9,8 @@ ghost use Rattle.tso_machine.specs.Steps.{HoldsMet};
 use crate::looking::look;
 use crate::rows_of::{location_at, locks_at};
 use crate::state::Pending;
+use file_decoder::Compiled;
 use file_lines::wide;
-use file_rows::Code;
 use machine::{LastWrite, after_step};
 use machine_access::ThreadState;
 
@@ -31,8 +31,7 @@ pub struct Met {
 // The next access of thread t, which stands so with this memory, these last writes and this queue, where it may step. Memory is shown to
 // it with what it finds at the access's location.
 pub(crate) fn meet(
-    code: &Code,
-    lengths: &[usize; 6],
+    program: &Compiled,
     thread: ThreadState,
     memory: [u32; 8],
     last: [LastWrite; 8],
@@ -41,36 +40,27 @@ pub(crate) fn meet(
     tail: u8,
     t: u8,
 ) -> Met
-    requires { ReadyThread lengths.now thread t × (tail ≤ 16) }
-    ensures { (m : QueuedMachine) (σ : State) → Holds code.now lengths.now m σ
+    requires { ReadyThread program.now.lengths thread t × (tail ≤ 16) }
+    ensures { (m : QueuedMachine) (σ : State) → Holds program.now.code program.now.lengths m σ
         → parts_of m t ≡ record { thread = thread; memory = memory; last = last; slots = slots; head = head; tail = tail }
-        → enabled σ t ≡ true → place σ access t < 8 → HoldsMet code.now lengths.now σ t result }
+        → enabled σ t ≡ true → place σ access t < 8 → HoldsMet program.now.code program.now.lengths σ t result }
 {
     let u = wide(t);
     let row = u * 16 + thread.at;
-    let p = location_at(code, row);
+    let p = location_at(&program.code, row);
     let l = wide(p) % 8;
-    let w = last[l];
-    let f = look(slots, head, tail, memory[l], w, t, p);
-    let source = f.source;
+    let f = look(slots, head, tail, memory[l], last[l], t, p);
     let mut seen = memory;
     seen[l] = f.value;
-    let a = after_step(code, lengths, thread, seen, t);
-    let registers = a.registers;
-    let values = a.memory;
+    let a = after_step(program, thread, seen, t);
     Met {
-        thread: ThreadState {
-            registers: registers,
-            at: a.at,
-            done: a.done,
-            failed: a.failed,
-        },
-        source: source,
-        value: values[l],
+        thread: a.thread,
+        source: f.source,
+        value: a.memory[l],
         location: p,
-        reads: a.reads == 1,
-        locks: locks_at(code, row),
-        writes: a.writes == 1,
+        reads: a.reads,
+        locks: locks_at(&program.code, row),
+        writes: a.writes,
         own: f.own,
     }
 }

@@ -12,10 +12,7 @@ pub fn locks_at(code: &Code, row: usize) -> bool
     ensures { result ≡ first_locks (instruction_at code.now row ∷ []) }
 {
     let b = code[row * 16];
-    if b < 0x12 {
-        return false;
-    }
-    b <= 0x13
+    0x12 <= b && b <= 0x13
 }
 
 // The location of the access in a row.
@@ -26,7 +23,8 @@ pub(crate) fn location_at(code: &Code, row: usize) -> u8
 {
     let at = row * 16;
     if code[at] == 0x10 {
-        return code[at + 1];
+        code[at + 1]
+    } else {
+        code[at + 2]
     }
-    code[at + 2]
 }

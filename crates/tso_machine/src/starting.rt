@@ -8,54 +8,38 @@ ghost use Rattle.tso_machine.specs.Held.{Holds};
 ghost use Rattle.tso_machine.specs.Counted.{HoldsFirst};
 
 use crate::state::{Pending, QueuedMachine};
-use file_rows::Code;
+use file_decoder::Compiled;
+use machine::Machine;
 use machine_access::accesses_below;
 
-// The smaller of two numbers.
-fn least(a: usize, b: usize) -> usize
-    ensures { result ≡ cond (ltb a b) a b }
-{
-    if a < b {
-        return a;
-    }
-    b
-}
-
 // Where each thread's own slots begin: behind those of the threads before it.
-fn first_slots(code: &Code, lengths: &[usize; 6], threads: usize) -> [u8; 6]
-    requires { (p : Program) × Loaded code.now lengths.now threads p }
-    ensures { HoldsFirst code.now lengths.now threads result }
+fn first_slots(program: &Compiled) -> [u8; 6]
+    requires { (p : Program) × Loaded program.now.code program.now.lengths program.now.threads p }
+    ensures { HoldsFirst program.now.code program.now.lengths program.now.threads result }
 {
     let mut first = [0u8; 6];
-    let mut t = 0;
-    while t < 6 {
-        let n = least(threads, t);
-        first[t] = accesses_below(code, lengths, n) as u8;
-        t += 1;
+    for t in 0..6 {
+        first[t] = accesses_below(&program.code, &program.lengths, program.threads.min(t)) as u8;
     }
     first
 }
 
-// The state of the program in these rows, with these starting values; it has at most sixteen accesses.
-pub fn started(
-    code: &Code,
-    lengths: &[usize; 6],
-    threads: usize,
-    starting: [u32; 8],
-) -> QueuedMachine
-    requires { (p : Program) × Loaded code.now lengths.now threads p }
-    ensures { (p : Program) → Loaded code.now lengths.now threads p → starting ≡ initial p
-        → all_accesses p.threads ≤ 16 → Holds code.now lengths.now result (start p) }
+// The state before the first step of a program, which has at most sixteen accesses.
+pub fn started(program: &Compiled) -> QueuedMachine
+    requires { (p : Program) × Loaded program.now.code program.now.lengths program.now.threads p }
+    ensures { (p : Program) → Loaded program.now.code program.now.lengths program.now.threads p → program.now.starting ≡ initial p
+        → all_accesses p.threads ≤ 16 → Holds program.now.code program.now.lengths result (start p) }
 {
-    let m = machine::started(code, lengths, threads, starting);
-    let all = m.threads;
-    let memory = m.memory;
-    let last = m.last;
-    let first = first_slots(code, lengths, threads);
+    let first = first_slots(program);
+    let Machine {
+        threads,
+        memory,
+        last,
+    } = machine::started(program);
     QueuedMachine {
-        threads: all,
-        memory: memory,
-        last: last,
+        threads,
+        memory,
+        last,
         heads: first,
         tails: first,
         slots: [Pending {

@@ -3,7 +3,6 @@ use Prim.Native.Nat.{ℕ, ◌+◌, ◌<◌, ◌≤◌}
 use mathlib.Core.Path.{◌≡◌, refl, sym, ap, ap₂, ◌∙◌}
 use mathlib.Core.Logic.{◌≢◌}
 use mathlib.Core.Bool.{Bool, true, false, cond, not, ◌&&◌, ◌||◌, true≢false, false≢true}
-use mathlib.Core.List.{List}
 use native.Mathlib.Omega.{arith}
 use native.Mathlib.Decide.{ℕ_discrete, dec_lt}
 use lib.Dec.{eqb, ltb}
@@ -16,9 +15,9 @@ use Rattle.spec_sc.proofs.Same.{both_and}
 use Rattle.spec_schedules.specs.Sets.{has}
 use Rattle.theory_sc.specs.Sets.{set_of}
 use Rattle.theory_sc.proofs.Sets.{has_none, set_has, set_same, set_none, set_own}
-use Rattle.spec_tso.specs.State.{State, Kind, byte_for, enabled, owner, kind_of, step_of, step, thread_of}
+use Rattle.spec_tso.specs.State.{State, Kind, byte_for, enabled, owner, kind_of, step}
 use Rattle.spec_tso.proofs.Steps.{thread_other, step_of_cells}
-use Rattle.spec_tso.proofs.Bytes.{kind_for, owner_for}
+use Rattle.spec_tso.proofs.Bytes.{owner_for}
 use Rattle.theory_tso.specs.LateBytes.{bytes_of}
 
 -- an empty set

@@ -2,15 +2,15 @@
 -- has to stay behind the step just taken, in the order in which the code asks.
 use Prim.Native.Nat.{ℕ, zero, suc, ◌+◌, ◌-◌, ◌*◌, ◌%◌, ◌<◌, ◌≤◌}
 use mathlib.Core.Path.{◌≡◌, refl, sym, ap, ap₂, subst, ◌∙◌}
-use mathlib.Core.Bool.{Bool, true, false, cond, not, ◌&&◌, ◌||◌, false≢true}
+use mathlib.Core.Bool.{Bool, true, false, not, ◌&&◌, ◌||◌, false≢true}
 use mathlib.Core.Option.{Option, none, some}
 use mathlib.Core.List.{List, [], ◌∷◌, map}
 use native.Mathlib.Omega.{arith}
-use lib.Dec.{eqb, ltb}
+use lib.Dec.{eqb}
 use lib.ListN.{length, get_or, drop}
 use native.Mathlib.Decide.{dec_lt}
 use native.Mathlib.Nat.{mod-eq_of_lt}
-use borrow.Author.Tests.{eqb-true, eq-eqb, ne_eqb}
+use borrow.Author.Tests.{eq-eqb, ne_eqb}
 use Rattle.spec_file.specs.declared.instruction.Instruction.{Instruction}
 use Rattle.spec_file.specs.declared.instruction.Instruction.TheVariants.{Memory, Alone}
 use Rattle.file_rows.specs.Rows.{instruction_at, thread_code}
@@ -25,23 +25,22 @@ use Rattle.spec_sc.specs.State.{Cell}
 use Rattle.spec_sc.specs.Actions as Acts
 use Rattle.spec_sc.specs.Actions.{given}
 use Rattle.spec_sc.proofs.Steps as Steps
-use Rattle.graph_writer.proofs.NotesHeld.{flag}
 use Rattle.machine.specs.Held.{thread_at}
 use Rattle.machine.proofs.HeldNext.{next_rest, next_wrote, held_left}
 use Rattle.search_place.proofs.RowAccess.{place_first}
 use Rattle.spec_tso.specs.Queue.{Entry, newest, found_in, at_once, free, movable, oldest_number, oldest_place, oldest_value}
-use Rattle.spec_tso.specs.State.{Thread, State, Kind, access, move, unqueued, without_queues, thread_of, cell_of, access_locks, first_locks, locked, finds, number_of, target, reaches, place, able, kind_of, owner, byte_for, enabled}
+use Rattle.spec_tso.specs.State.{State, Kind, access, move, unqueued, without_queues, thread_of, cell_of, first_locks, locked, finds, number_of, target, reaches, place, able, byte_for, enabled}
 use Rattle.spec_tso.specs.Actions.{moving, reading, locking}
 use Rattle.spec_tso.proofs.Bytes.{kind_for, owner_for}
 use Rattle.spec_tso.proofs.Steps.{enabled_for, able_pending, able_free, able_movable}
 use Rattle.spec_tso.proofs.Queues.{free_empty}
-use Rattle.spec_tso.proofs.Seen.{seen_thread, seen_cell}
+use Rattle.spec_tso.proofs.Seen.{seen_thread}
 use Rattle.tso_machine.specs.Slots.{no_store, entry_at, queue_at}
 use Rattle.tso_machine.specs.Held.{core_of, head_at, tail_at, slot_at, queue_of, Holds}
 use Rattle.tso_machine.specs.declared.state.Pending.{Pending}
 use Rattle.tso_machine.proofs.HeldCore.{tail_below}
 use Rattle.tso_machine.specs.declared.state.QueuedMachine.{QueuedMachine}
-use Rattle.theory_tso.specs.Deeds.{is_none, looking, deed_of, deed, makes, empties, puts_first, looks_first, waits}
+use Rattle.theory_tso.specs.Deeds.{is_none, looking, deed_of, deed}
 use Rattle.theory_tso.specs.declared.deed.Deed.{Deed}
 use Rattle.tso_order.specs.Freed.{Ends, stores_to}
 
@@ -195,10 +194,10 @@ module _ (code lengths : List ℕ) (m : QueuedMachine) (σ : State) (held : Hold
     access_takes = ap first_takes rest ∙ takes_first x later
 
     -- a locked access has nothing pending, so it finds memory
-    wrote : eqb (access_of (instruction_at code (u * 16 + (thread_at (core_of m) u).at)) (thread_at (core_of m) u).registers m.memory).writes 1 ≡ given (puts (thread_of σ u).local (cell_of σ (place σ access u)).value)
+    wrote : (access_of (instruction_at code (u * 16 + (thread_at (core_of m) u).at)) (thread_at (core_of m) u).registers m.memory).writes ≡ given (puts (thread_of σ u).local (cell_of σ (place σ access u)).value)
     unfolding Acts.writes SC.place place target SC.cell_of cell_of without_queues
     wrote =
-        ap (λ (n : ℕ). eqb n 1) (sym (next_wrote code lengths (core_of m) (without_queues σ) u held.core live x a refl refl)) ∙ flag (Acts.writes (without_queues σ) u)
+        sym (next_wrote code lengths (core_of m) (without_queues σ) u held.core live x a refl refl)
         ∙ ap (λ (k : Local). given (puts k (cell_of σ (place_of k)).value)) local
 
     puts_now : (b : Bool) → locked (thread_of σ u).local ≡ b → given (reaches access u (thread_of σ u) (cell_of σ (place σ access u))) ≡ (b && given (puts (thread_of σ u).local (cell_of σ (place σ access u)).value))
@@ -215,7 +214,7 @@ module _ (code lengths : List ℕ) (m : QueuedMachine) (σ : State) (held : Hold
       moves = false;
       locks = first_locks (instruction_at code (u * 16 + (thread_at (core_of m) u).at) ∷ []);
       looks = first_takes (instruction_at code (u * 16 + (thread_at (core_of m) u).at) ∷ []) && not (stores_to (first_place (instruction_at code (u * 16 + (thread_at (core_of m) u).at) ∷ [])) (queue_of m u));
-      puts = first_locks (instruction_at code (u * 16 + (thread_at (core_of m) u).at) ∷ []) && eqb (access_of (instruction_at code (u * 16 + (thread_at (core_of m) u).at)) (thread_at (core_of m) u).registers m.memory).writes 1;
+      puts = first_locks (instruction_at code (u * 16 + (thread_at (core_of m) u).at) ∷ []) && (access_of (instruction_at code (u * 16 + (thread_at (core_of m) u).at)) (thread_at (core_of m) u).registers m.memory).writes;
     }
     unfolding deed_of number_of target moving locking looking reading place place_of
     access_deed =
@@ -230,7 +229,7 @@ module _ (code lengths : List ℕ) (m : QueuedMachine) (σ : State) (held : Hold
           moves = false;
           locks = b;
           looks = first_takes (x ∷ []) && not (stores_to (first_place (x ∷ [])) (queue_of m u));
-          puts = first_locks (x ∷ []) && eqb a.writes 1;
+          puts = first_locks (x ∷ []) && a.writes;
         } in z) access_place_lem access_locks_lem
 
     -- as the code has it: where the thread stands so, with this memory, at this row
@@ -242,7 +241,7 @@ module _ (code lengths : List ℕ) (m : QueuedMachine) (σ : State) (held : Hold
       moves = false;
       locks = first_locks (instruction_at code i ∷ []);
       looks = first_takes (instruction_at code i ∷ []) && not (stores_to (first_place (instruction_at code i ∷ [])) (queue_of m u));
-      puts = first_locks (instruction_at code i ∷ []) && eqb (access_of (instruction_at code i) j.registers z).writes 1;
+      puts = first_locks (instruction_at code i ∷ []) && (access_of (instruction_at code i) j.registers z).writes;
     }
 
     pub access_shown : (k : ThreadState) (memory : List ℕ) (row : ℕ) → thread_at (core_of m) u ≡ k → m.memory ≡ memory → row ≡ u * 16 + k.at → deed σ (byte_for access u) ≡ record {
@@ -252,7 +251,7 @@ module _ (code lengths : List ℕ) (m : QueuedMachine) (σ : State) (held : Hold
       moves = false;
       locks = first_locks (instruction_at code row ∷ []);
       looks = first_takes (instruction_at code row ∷ []) && not (stores_to (first_place (instruction_at code row ∷ [])) (queue_of m u));
-      puts = first_locks (instruction_at code row ∷ []) && eqb (access_of (instruction_at code row) k.registers memory).writes 1;
+      puts = first_locks (instruction_at code row ∷ []) && (access_of (instruction_at code row) k.registers memory).writes;
     }
     access_shown k memory row ek em er = access_deed ∙ ap₂ (λ (j : ThreadState) (z : List ℕ). shown j z (u * 16 + j.at)) ek em ∙ ap (shown k memory) (sym er)
 

@@ -17,34 +17,26 @@ pub struct Sets {
 }
 
 // The set of those of six threads that pass a test.
-pub fn six(b0: bool, b1: bool, b2: bool, b3: bool, b4: bool, b5: bool) -> u8
-    ensures { (f : ℕ → Bool) → b0 ≡ f 0 → b1 ≡ f 1 → b2 ≡ f 2 → b3 ≡ f 3 → b4 ≡ f 4 → b5 ≡ f 5 → result ≡ set_of f 6 }
+pub fn six<F: Fn(u8) -> bool>(f: F) -> u8
+    requires { (u : ℕ) → u < 6 → F.pre f u }
+    ensures { (g : ℕ → Bool) → ((u : ℕ) (b : Bool) → u < 6 → F.post f u b → b ≡ g u) → result ≡ set_of g 6 }
 {
-    let three = addend(b0, 1) + addend(b1, 2) + addend(b2, 4);
-    three + addend(b3, 8) + addend(b4, 16) + addend(b5, 32)
+    let three = addend(f(0), 1) + addend(f(1), 2) + addend(f(2), 4);
+    three + addend(f(3), 8) + addend(f(4), 16) + addend(f(5), 32)
 }
 
 // Whether u is in the set, where t is or is not.
 fn chosen(set: u8, t: u8, on: bool, u: u8) -> bool
     ensures { result ≡ cond (eqb u t) on (has set u) }
 {
-    if u == t {
-        return on;
-    }
-    is_in(set, u)
+    if u == t { on } else { is_in(set, u) }
 }
 
 // Whether a set of the six has t in it or not already.
 fn is_so(set: u8, t: u8, on: bool) -> bool
     ensures { result ≡ true → (set < 64) × (has set t ≡ on) }
 {
-    if 64 <= set {
-        return false;
-    }
-    if is_in(set, t) {
-        return on;
-    }
-    !on
+    set < 64 && is_in(set, t) == on
 }
 
 // The set with t in it or not.
@@ -54,12 +46,5 @@ pub fn with_bit(set: u8, t: u8, on: bool) -> u8
     if is_so(set, t, on) {
         return set;
     }
-    six(
-        chosen(set, t, on, 0),
-        chosen(set, t, on, 1),
-        chosen(set, t, on, 2),
-        chosen(set, t, on, 3),
-        chosen(set, t, on, 4),
-        chosen(set, t, on, 5),
-    )
+    six(|u| chosen(set, t, on, u))
 }

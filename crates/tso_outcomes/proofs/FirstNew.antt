@@ -1,10 +1,10 @@
 -- The first schedule with a new outcome behind a prefix as the code seeks it: with one next step, at the end, over the next steps in turn, and with marks.
 use Prim.Native.Nat.{ℕ, ◌+◌, ◌<◌, ◌≤◌}
-use mathlib.Core.Path.{◌≡◌, refl, sym, ap, ap₂, subst, ◌∙◌}
-use mathlib.Core.Bool.{Bool, true, false}
-use mathlib.Core.Option.{none, some}
+use mathlib.Core.Path.{◌≡◌, sym, ap, ap₂, subst, ◌∙◌}
+use mathlib.Core.Bool.{Bool, true, false, cond}
+use mathlib.Core.Option.{Option, none, some}
 use mathlib.Core.List.{List, [], ◌∷◌, ◌++◌}
-use lib.ListN.{length, take, drop}
+use lib.ListN.{length, drop}
 use Rattle.spec_file.specs.Program.{Program}
 use Rattle.spec_schedules.specs.Lists.{head_of}
 use Rattle.spec_schedules.specs.Order.{Schedule}
@@ -32,11 +32,8 @@ use Rattle.states_outcomes.specs.Swept.{Silent}
 use Rattle.states_outcomes.proofs.Values.{values_memory}
 use Rattle.tso_key.specs.Stands.{Stands}
 use Rattle.tso_key.specs.declared.spot.Spot.{Spot}
-use Rattle.tso_states.specs.FoundOf.{found_of}
 use Rattle.tso_states.specs.Position.{Position}
-use Rattle.tso_states.specs.declared.seeking.First.{First}
 use Rattle.tso_states.proofs.Numbered.{Sleeps}
-use Rattle.tso_states.proofs.FirstFound.{found_none, found_some}
 use Rattle.tso_outcomes.specs.Swept.{Swept}
 
 -- where nothing is said, nothing false is
@@ -55,10 +52,9 @@ module _ (test : Outcome → Bool) (p : Program) (steps : ℕ) (v : Schedule) (b
   untried_new e = none_with tso given_up test p steps v b (untried_none p v b false steps none e)
 
 -- ---- where nobody may step: the prefix, if its outcome passes
-pub ended_new : (test : Outcome → Bool) (p : Program) (steps : ℕ) (v : Schedule) → ended TSO (end_of p v) ≡ true → (r : First) → r.found ≡ passes tso test (end_of p v) → take r.steps r.schedule ≡ v
-    → found_of r ≡ head_of (passing_behind test p steps v)
-unfolding found_of
-ended_new test p steps v e r = ended_with tso given_up test p steps v e r.found (take r.steps r.schedule)
+pub ended_new : (test : Outcome → Bool) (p : Program) (steps : ℕ) (v : Schedule) → ended TSO (end_of p v) ≡ true → (found : Bool) (l : Schedule) → found ≡ passes tso test (end_of p v) → l ≡ v
+    → cond found (some l) none ≡ head_of (passing_behind test p steps v)
+ended_new test p steps v e = ended_with tso given_up test p steps v e
 
 -- the outcome that a spot holds
 pub spot_outcome : (code lengths class : List ℕ) (threads groups : ℕ) (x : Spot) (p : Program) (v : Schedule) → Stands code lengths class threads groups x p v → (f : Bool) → f ≡ fails (end_of p v) →
@@ -109,28 +105,24 @@ module _ (code lengths class : List ℕ) (f : Frame) (x : Spot) (rows lent₀ : 
       (λ c. passing_behind (is_new rows f.known) c.program x.place.steps c.prefix) lent b
 
   -- what a turn with b answers, where these rows are known
-  abbrev pub Visits : ℕ → First → List ℕ → List ℕ → List ℕ → Type 0
-  Visits b r lent lent' now =
+  abbrev pub Visits : ℕ → Option Schedule → List ℕ → List ℕ → List ℕ → Type 0
+  Visits b o lent lent' now =
       (c : Position code lengths class f.width x) → Swept c.program f now lent
-      → (found_of r ≡ head_of (passing_with (is_new now f.known) c.program x.place.steps c.prefix b)) × Swept c.program f now lent'
+      → (o ≡ head_of (passing_with (is_new now f.known) c.program x.place.steps c.prefix b)) × Swept c.program f now lent'
 
   pub new_start : ((c : Position code lengths class f.width x) → ended TSO (end_of c.program c.prefix) ≡ false) → ((c : Position code lengths class f.width x) → x.place.steps < 32) → Still lent₀ 0
   new_start e room = seeking_start Case 22 True lent₀ each whole _ low_none
       (λ c. turns_with tso given_up (is_new rows f.known) c.program x.place.steps c.prefix (e c) (room c))
 
   -- with b, which is tried: found
-  pub new_found : (lent lent' : List ℕ) (b : ℕ) → b < 22 → Still lent b → (r : First) (now : List ℕ) → now ≡ rows → Visits b r lent lent' now → r.found ≡ true →
+  pub new_found : (lent lent' : List ℕ) (b : ℕ) → b < 22 → Still lent b → (s : Schedule) (now : List ℕ) → now ≡ rows → Visits b (some s) lent lent' now →
       (c : Position code lengths class f.width x) → Swept c.program f rows lent₀ →
-      (found_of r ≡ head_of (passing_behind (is_new rows f.known) c.program x.place.steps c.prefix)) × Swept c.program f rows lent'
-  new_found lent lent' b h so r now same visited q c marks =
-      let k = seeking_found Case 22 True lent₀ each whole lent lent' b h so (take r.steps r.schedule)
-      (λ d ok. let z = subst (Visits b r lent lent') same visited d ok in (found_some r q ∙ z.0, z.1)) c marks in
-      (sym (found_some r q) ∙ k.0, k.1)
+      (some s ≡ head_of (passing_behind (is_new rows f.known) c.program x.place.steps c.prefix)) × Swept c.program f rows lent'
+  new_found lent lent' b h so s now same visited = seeking_found Case 22 True lent₀ each whole lent lent' b h so s (subst (Visits b (some s) lent lent') same visited)
 
   -- not found
-  pub new_none : (lent lent' behind : List ℕ) (b : ℕ) → b < 22 → Still lent b → (r : First) (now : List ℕ) → now ≡ rows → Visits b r lent lent' now → r.found ≡ false → behind ≡ lent' → Still behind (b + 1)
-  new_none lent lent' behind b h so r now same visited q =
-      seeking_none Case 22 True lent₀ each whole lent lent' behind b h so (λ d ok. let z = subst (Visits b r lent lent') same visited d ok in (found_none r q ∙ z.0, z.1))
+  pub new_none : (lent lent' behind : List ℕ) (b : ℕ) → b < 22 → Still lent b → (now : List ℕ) → now ≡ rows → Visits b none lent lent' now → behind ≡ lent' → Still behind (b + 1)
+  new_none lent lent' behind b h so now same visited = seeking_none Case 22 True lent₀ each whole lent lent' behind b h so (subst (Visits b none lent lent') same visited)
 
   -- with b, which is not tried
   pub new_passed : (lent behind : List ℕ) (b : ℕ) → b < 22 → Still lent b → ((c : Position code lengths class f.width x) → tried c.program c.prefix b ≡ false) → behind ≡ lent → Still behind (b + 1)

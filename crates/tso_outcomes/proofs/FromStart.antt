@@ -7,9 +7,9 @@ use Rattle.file_decoder.specs.declared.file.Compiled.{Compiled}
 use Rattle.theory_tso_key.specs.Words.{Wide}
 use Rattle.tso_states.specs.Made.{Made}
 use Rattle.tso_states.specs.Position.{Position}
-use Rattle.tso_states.specs.declared.answering.Setup.{Setup}
+use Rattle.tso_states.specs.declared.setup.Setup.{Setup}
 
-abbrev pub from_start : (program : Compiled) (m : Setup) → Made program m → (n : ℕ) → n ≡ m.width → Position program.code program.lengths m.class n m.spot
+abbrev pub from_start : (program : Compiled) (m : Setup) → Made program m → (n : ℕ) → n ≡ m.width → Position m.program.code m.program.lengths m.program.class n m.spot
 from_start program m made n e = record {
   threads = program.threads;
   groups = program.groups;

@@ -7,114 +7,80 @@ ghost use Rattle.theory_tso_outcomes.specs.Passing.{passing_behind, passing_with
 ghost use Rattle.states_live.specs.Live.{Live};
 ghost use Rattle.states_outcomes.specs.Rows.{is_new};
 ghost use Rattle.states_outcomes.specs.Swept.{Kept};
-ghost use Rattle.tso_states.specs.FoundOf.{found_of};
+ghost use Rattle.listing_cursor.specs.Steps.{found_of, Short};
 ghost use Rattle.tso_states.specs.Position.{Position};
 ghost use Rattle.tso_outcomes.specs.Swept.{Swept};
 
 use crate::flagging::outcome_key;
-use file_rows::Code;
+use listing_cursor::Steps;
 use machine::some_failed;
 use states_outcomes::{Frame, is_new, is_swept, sweep};
 use tso_key::Spot;
-use tso_place::Place;
 use tso_rules::{is_tried, some_asleep};
-use tso_states::{First, nothing, stepped};
+use tso_states::{Setup, stepped, steps_if};
 use tso_walk::is_over;
-
-// Where nobody may step: the prefix, if its outcome is not known.
-fn ending(place: Place, failed: bool, lent: &[u64], frame: Frame) -> First
-    requires { (9 * frame.known ≤ frame.cut) × (frame.cut ≤ length lent.now) }
-    ensures { (result.found ≡ is_new (take frame.cut lent.now) frame.known (record { memory = place.memory; fails = failed }))
-        × (result.steps ≡ place.steps) × (result.schedule ≡ place.schedule) }
-{
-    let memory = place.memory;
-    let schedule = place.schedule;
-    First {
-        found: is_new(memory, failed, lent, frame),
-        steps: place.steps,
-        schedule: schedule,
-    }
-}
 
 // Of those with b, which is tried, as the next step.
 #[cycle(new_behind_new_with)]
-fn new_with(
-    code: &Code,
-    lengths: &[usize; 6],
-    class: &[usize; 6],
-    left: &[u8; 192],
-    masks: &[u8; 96],
-    frame: Frame,
-    x: Spot,
-    lent: &mut [u64],
-    b: u8,
-) -> First
-    requires { Position code.now lengths.now class.now frame.width x × Left code.now lengths.now left.now
-        × Live code.now lengths.now masks.now × (frame.width ≤ 27) × (9 * frame.known ≤ frame.cut)
+fn new_with(setup: &Setup, frame: Frame, x: &Spot, lent: &mut [u64], b: u8) -> Option<Steps<32>>
+    requires { Position setup.now.program.code setup.now.program.lengths setup.now.program.class frame.width x.now
+        × Left setup.now.program.code setup.now.program.lengths setup.now.left
+        × Live setup.now.program.code setup.now.program.lengths setup.now.masks × (frame.width ≤ 27) × (9 * frame.known ≤ frame.cut)
         × (frame.cut ≤ length lent.old)
-        × ((c : Position code.now lengths.now class.now frame.width x) → tried c.program c.prefix b ≡ true) }
-    ensures words { Kept frame.cut lent.old lent.new × (result.steps ≤ 32) }
-    ensures first { (c : Position code.now lengths.now class.now frame.width x)
+        × ((c : Position setup.now.program.code setup.now.program.lengths setup.now.program.class frame.width x.now)
+        → tried c.program c.prefix b ≡ true) }
+    ensures words { Kept frame.cut lent.old lent.new × Short result }
+    ensures first { (c : Position setup.now.program.code setup.now.program.lengths setup.now.program.class frame.width x.now)
         → Swept c.program frame (take frame.cut lent.old) lent.old
-        → (found_of result ≡ head_of (passing_with (is_new (take frame.cut lent.old) frame.known) c.program x.place.steps c.prefix b))
+        → (found_of result ≡ head_of (passing_with (is_new (take frame.cut lent.old) frame.known) c.program x.now.place.steps c.prefix b))
         × Swept c.program frame (take frame.cut lent.old) lent.new }
 {
-    let y = stepped(code, lengths, class, x, b);
-    let place = y.place;
-    if some_asleep(code, lengths, left, place) {
-        let r = nothing();
-        return r;
+    let y = stepped(&setup.program, x, b);
+    if some_asleep(&setup.program, &setup.left, &y.place) {
+        return None;
     }
-    let r = new_behind(code, lengths, class, left, masks, frame, y, lent);
-    r
+    new_behind(setup, frame, &y, lent)
 }
 
 // Of all behind the steps taken.
 #[cycle(new_behind_new_with)]
 pub(crate) fn new_behind(
-    code: &Code,
-    lengths: &[usize; 6],
-    class: &[usize; 6],
-    left: &[u8; 192],
-    masks: &[u8; 96],
+    setup: &Setup,
     frame: Frame,
-    x: Spot,
+    x: &Spot,
     lent: &mut [u64],
-) -> First
-    requires { Position code.now lengths.now class.now frame.width x × Left code.now lengths.now left.now
-        × Live code.now lengths.now masks.now × (frame.width ≤ 27) × (9 * frame.known ≤ frame.cut)
+) -> Option<Steps<32>>
+    requires { Position setup.now.program.code setup.now.program.lengths setup.now.program.class frame.width x.now
+        × Left setup.now.program.code setup.now.program.lengths setup.now.left
+        × Live setup.now.program.code setup.now.program.lengths setup.now.masks × (frame.width ≤ 27) × (9 * frame.known ≤ frame.cut)
         × (frame.cut ≤ length lent.old) }
-    ensures words { Kept frame.cut lent.old lent.new × (result.steps ≤ 32) }
-    ensures first { (c : Position code.now lengths.now class.now frame.width x)
+    ensures words { Kept frame.cut lent.old lent.new × Short result }
+    ensures first { (c : Position setup.now.program.code setup.now.program.lengths setup.now.program.class frame.width x.now)
         → Swept c.program frame (take frame.cut lent.old) lent.old
-        → (found_of result ≡ head_of (passing_behind (is_new (take frame.cut lent.old) frame.known) c.program x.place.steps c.prefix))
+        → (found_of result ≡ head_of (passing_behind (is_new (take frame.cut lent.old) frame.known) c.program x.now.place.steps c.prefix))
         × Swept c.program frame (take frame.cut lent.old) lent.new }
 {
-    let place = x.place;
-    let threads = place.threads;
-    let words = place.words;
-    let sets = place.sets;
-    let failed = some_failed(threads);
-    if is_over(sets) {
-        let r = ending(place, failed, lent, frame);
-        return r;
+    let failed = some_failed(x.place.threads);
+    if is_over(x.place.sets) {
+        return steps_if(is_new(x.place.memory, failed, lent, frame), &x.place);
     }
-    let k = outcome_key(lengths, class, masks, x, failed);
+    let k = outcome_key(
+        &setup.program.lengths,
+        &setup.program.class,
+        &setup.masks,
+        x,
+        failed,
+    );
     if is_swept(lent, frame, &k) {
-        let r = nothing();
-        return r;
+        return None;
     }
-    let mut b = 0;
-    while b < 22 {
-        if is_tried(class, &words, sets, b) {
-            let r = new_with(code, lengths, class, left, masks, frame, x, lent, b);
-            if r.found {
-                return r;
+    for b in 0..22 {
+        if is_tried(&setup.program.class, &x.place.words, x.place.sets, b) {
+            if let Some(s) = new_with(setup, frame, x, lent, b) {
+                return Some(s);
             }
         }
-        b += 1;
     }
     sweep(lent, frame, &k);
-    let r = nothing();
-    r
+    None
 }

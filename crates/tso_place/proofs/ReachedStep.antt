@@ -1,7 +1,6 @@
 -- A prefix as the search holds it: how it starts, and how a step leads on.
 use Prim.Native.Nat.{ℕ, zero, suc, ◌+◌, ◌<◌, ◌≤◌}
 use mathlib.Core.Path.{◌≡◌, refl, sym, ap, ap₂, subst, ◌∙◌}
-use mathlib.Core.Logic.{◌≢◌}
 use mathlib.Core.Bool.{Bool, true, false, cond, not, ◌&&◌, ◌||◌}
 use mathlib.Core.Option.{Option, none, some}
 use mathlib.Core.List.Memᴰ
@@ -17,7 +16,7 @@ use Rattle.spec_file.specs.Program.{Program}
 use Rattle.spec_file.specs.WellFormed.{WellFormed, all_accesses}
 use Rattle.spec_schedules.specs.Lists.{range, any}
 use Rattle.spec_schedules.specs.Order.{Schedule}
-use Rattle.spec_schedules.specs.System.{run, Allowed}
+use Rattle.spec_schedules.specs.System.{Allowed}
 use Rattle.spec_schedules.proofs.Lists.{of_range}
 use Rattle.spec_schedules.proofs.Runs.{run_nil, run_snoc, allowed_join, allowed_length}
 use Rattle.spec_model.specs.Exchange.{together}
@@ -25,7 +24,6 @@ use Rattle.theory_search.specs.LateSet.{goes_on}
 use Rattle.spec_sc.specs.State as SC
 use Rattle.spec_sc.specs.State.{Event}
 use Rattle.spec_sc.specs.Local.{place_of, takes}
-use Rattle.spec_sc.specs.Actions.{given}
 use Rattle.theory_search.specs.Standing.{silent}
 use Rattle.machine_access.specs.declared.thread.ThreadState.{ThreadState}
 use Rattle.machine.specs.Held as Core
@@ -35,18 +33,18 @@ use Rattle.spec_schedules.specs.Sets.{has}
 use Rattle.theory_sc.specs.Sets.{set_of}
 use Rattle.theory_sc.specs.ThreadWords as ThreadWords
 use Rattle.theory_sc.specs.ThreadWords.{twin_by_word}
-use Rattle.theory_sc.proofs.Sets.{set_none, set_same, set_has}
+use Rattle.theory_sc.proofs.Sets.{set_none, set_same}
 use Rattle.theory_sc.proofs.TwinWords.{any_same}
-use Rattle.spec_tso.specs.Queue.{Entry, newest, is_empty, movable}
+use Rattle.spec_tso.specs.Queue.{Entry, newest, movable}
 use Rattle.spec_tso.specs.State.{Thread, State, Kind, access, move, idle, without_queues, thread_of, cell_of, finds, place, able, kind_of, owner, byte_for, step, enabled, start, TSO}
 use Rattle.spec_tso.specs.Graph.{end_of}
 use Rattle.spec_tso.specs.Actions.{action, action_of, moving, reading}
 use Rattle.spec_tso.proofs.Bytes.{ByteCase, of_access, of_move, byte_case, kind_for, owner_for}
-use Rattle.spec_tso.proofs.Steps.{enabled_small, enabled_able, enabled_for, putting}
+use Rattle.spec_tso.proofs.Steps.{enabled_small, enabled_able, enabled_for}
 use Rattle.spec_tso.proofs.Lawful.{lawful, start_32}
 use Rattle.spec_tso.proofs.Seen.{drained_thread, drained_cell}
 use Rattle.spec_sc.proofs.Start.{start_writes}
-use Rattle.spec_tso.proofs.Regular.{Regular, place_in, regular_run, regular_start}
+use Rattle.spec_tso.proofs.Regular.{place_in, regular_run, regular_start}
 use Rattle.theory_tso.specs.Rules.{twin}
 use Rattle.theory_tso.specs.Far.{twin_moves, starts_by, starts}
 use Rattle.tso_machine.proofs.HeldMay.{move_held}
@@ -66,9 +64,9 @@ use Rattle.theory_tso.proofs.Words.{quiet_silent, word_own, word_other}
 use Rattle.theory_tso.proofs.TwinWords.{twin_by_word_lem}
 use Rattle.tso_order.specs.Freed.{HoldsSets}
 use Rattle.tso_order.specs.declared.sets.Sets.{Sets}
-use Rattle.tso_place.specs.Reached.{machine_of, Carries, Reached}
+use Rattle.tso_place.specs.Reached.{machine_of, Reached}
 use Rattle.tso_place.specs.declared.place.Place.{Place}
-use Rattle.tso_order.proofs.Choices.{bytes_has, bytes_same, chosen_free, chosen_may}
+use Rattle.tso_order.proofs.Choices.{bytes_has, chosen_free, chosen_may}
 
 -- ---- bytes
 access_byte : (u : ℕ) → u + 0 ≡ byte_for access u
@@ -101,11 +99,11 @@ looks_own move h = refl
 same_deed : (d e : Deed) → d.thread ≡ e.thread → d.number ≡ e.number → d.location ≡ e.location → d.moves ≡ e.moves → d.locks ≡ e.locks → d.looks ≡ e.looks → d.puts ≡ e.puts → d ≡ e
 same_deed d e a b c f g h j = λ i. record { thread = a i; number = b i; location = c i; moves = f i; locks = g i; looks = h i; puts = j i }
 
-pub did : (code lengths : List ℕ) (σ : State) (b : ℕ) (r : Stepped) → HoldsStep code lengths σ b r → (t : ℕ) (mv lk : Bool) → t ≡ owner b → mv ≡ moving (kind_of b) → lk ≡ (r.reads && not r.own) →
-    record { thread = t; number = r.number; location = r.location; moves = mv; locks = r.locks; looks = lk; puts = r.puts } ≡ deed σ b
+pub did : (code lengths : List ℕ) (σ : State) (b : ℕ) (r : Stepped) → HoldsStep code lengths σ b r → (t : ℕ) (mv lk : Bool) → t ≡ owner b → mv ≡ moving (kind_of b) → lk ≡ (r.act.reads && not r.act.own) →
+    record { thread = t; number = r.act.number; location = r.act.location; moves = mv; locks = r.act.locks; looks = lk; puts = r.act.puts } ≡ deed σ b
 unfolding deed deed_of action action_of
 did code lengths σ b r H t mv lk et em el =
-    same_deed (record { thread = t; number = r.number; location = r.location; moves = mv; locks = r.locks; looks = lk; puts = r.puts }) (deed σ b) et H.number H.location em H.locks
+    same_deed (record { thread = t; number = r.act.number; location = r.act.location; moves = mv; locks = r.act.locks; looks = lk; puts = r.act.puts }) (deed σ b) et H.number H.location em H.locks
     (el ∙ ap₂ (λ (x y : Bool). x && not y) H.reads H.own ∙ looks_own (kind_of b) (thread_of σ (owner b))) H.puts
 
 -- a move's byte is at least 16
@@ -242,7 +240,7 @@ module _ (code lengths class : List ℕ) (threads groups : ℕ) (x : Place) (p :
 
   -- ---- behind the step, which gave back a
   module _ (a : Stepped) (H : HoldsStep code lengths (end_of p v) b a) where
-    words_behind : (ws : List ℕ) (t : ℕ) → t ≡ owner b → length x.words ≡ 6 → ws ≡ set x.words t (word_behind t (get_or x.words t 0) (cond a.reads (source_digit t (event_of a.source)) 1) a.puts) →
+    words_behind : (ws : List ℕ) (t : ℕ) → t ≡ owner b → length x.words ≡ 6 → ws ≡ set x.words t (word_behind t (get_or x.words t 0) (cond a.act.reads (source_digit t (event_of a.act.source)) 1) a.act.puts) →
         (u : ℕ) → u < 6 → get_or ws u 0 ≡ word_of (step (end_of p v) b) u
     unfolding action action_of reading source_of
     words_behind ws t et six ew u h = go (ℕ_discrete u t)
@@ -251,17 +249,17 @@ module _ (code lengths class : List ℕ) (threads groups : ℕ) (x : Place) (p :
         small = subst (λ (i : ℕ). i < 6) (sym et) (enabled_small (end_of p v) b ok)
 
         new : ℕ
-        new = word_behind t (get_or x.words t 0) (cond a.reads (source_digit t (event_of a.source)) 1) a.puts
+        new = word_behind t (get_or x.words t 0) (cond a.act.reads (source_digit t (event_of a.act.source)) 1) a.act.puts
 
-        same : (k : Kind) → kind_of b ≡ k → k ≡ access → (takes (thread_of (end_of p v) (owner b)).local ≡ a.reads) × ((finds (owner b) (thread_of (end_of p v) (owner b)) (cell_of (end_of p v) (place (end_of p v) (kind_of b) (owner b)))).source ≡ event_of a.source)
+        same : (k : Kind) → kind_of b ≡ k → k ≡ access → (takes (thread_of (end_of p v) (owner b)).local ≡ a.act.reads) × ((finds (owner b) (thread_of (end_of p v) (owner b)) (cell_of (end_of p v) (place (end_of p v) (kind_of b) (owner b)))).source ≡ event_of a.act.source)
         same k e f = let q = e ∙ f in
             (sym (H.reads ∙ ap (λ (j : Kind). reading j (thread_of (end_of p v) (owner b))) q), sym (H.source ∙ ap (λ (j : Kind). source_of j (owner b) (thread_of (end_of p v) (owner b)) (cell_of (end_of p v) (place (end_of p v) (kind_of b) (owner b)))) q))
 
         go : Dec (u ≡ t) → get_or ws u 0 ≡ word_of (step (end_of p v) b) u
         go (yes q) =
             ap₂ (λ (l : List ℕ) (i : ℕ). get_or l i 0) ew q ∙ get_or-set_same x.words t new 0 (omega (arith, small, six))
-            ∙ ap₂ (λ (i y : ℕ). word_behind i y (cond a.reads (source_digit i (event_of a.source)) 1) a.puts) et (at.words t small ∙ ap (word_of (end_of p v)) et)
-            ∙ sym (word_own p at.loaded.well_formed at.few v at.allowed b ok a.reads a.puts (event_of a.source) (sym H.puts) (λ e. same (kind_of b) refl e))
+            ∙ ap₂ (λ (i y : ℕ). word_behind i y (cond a.act.reads (source_digit i (event_of a.act.source)) 1) a.act.puts) et (at.words t small ∙ ap (word_of (end_of p v)) et)
+            ∙ sym (word_own p at.loaded.well_formed at.few v at.allowed b ok a.act.reads a.act.puts (event_of a.act.source) (sym H.puts) (λ e. same (kind_of b) refl e))
             ∙ ap (word_of (step (end_of p v) b)) (sym (q ∙ et))
         go (no q) =
             ap (λ (l : List ℕ). get_or l u 0) ew ∙ get_or-set_other x.words t u new 0 q ∙ at.words u h
@@ -269,7 +267,7 @@ module _ (code lengths class : List ℕ) (threads groups : ℕ) (x : Place) (p :
 
     pub reached_next : (r : Place) (t : ℕ) (s : Sets) → length x.schedule ≡ 32 → length x.words ≡ 6 → t ≡ owner b
         → machine_of r ≡ a.machine → r.schedule ≡ set x.schedule x.steps b → r.steps ≡ x.steps + 1
-        → r.words ≡ set x.words t (word_behind t (get_or x.words t 0) (cond a.reads (source_digit t (event_of a.source)) 1) a.puts)
+        → r.words ≡ set x.words t (word_behind t (get_or x.words t 0) (cond a.act.reads (source_digit t (event_of a.act.source)) 1) a.act.puts)
         → s.live ≡ bytes_of (enabled (step (end_of p v) b)) access → s.moving ≡ bytes_of (enabled (step (end_of p v) b)) move
         → s.late ≡ set_of (λ u. has s.live u && (not (eqb b (u + 0)) && (ltb (u + 0) b || has x.sets.late u))) 6
         → s.overdue ≡ set_of (λ u. has s.moving u && (not (eqb b (u + 16)) && (ltb (u + 16) b || has x.sets.overdue u))) 6

@@ -6,6 +6,7 @@ ghost use Rattle.spec_schedules.specs.Sets.{has};
 ghost use Rattle.theory_sc.specs.Sets.{set_of};
 ghost use Rattle.search_place.specs.ClassGroups.{Lined};
 ghost use Rattle.theory_sc.specs.ThreadWords.{twin_by_word};
+ghost use Rattle.tso_place.specs.Farther.{IsFarther};
 
 use search_place::is_in;
 use search_rules::has_same_word;
@@ -15,26 +16,14 @@ use tso_order::{Sets, six, with_bit};
 fn is_smaller(may: u8, before: u8, b: u8, u: u8, c: u8) -> bool
     ensures { result ≡ (has may u && (not (eqb b c) && (ltb c b || has before u))) }
 {
-    if !is_in(may, u) {
-        return false;
-    }
-    if b == c {
-        return false;
-    }
-    if c < b {
-        return true;
-    }
-    is_in(before, u)
+    is_in(may, u) && b != c && (c < b || is_in(before, u))
 }
 
 // Whether no thread was in the set, and no byte from `first` on is smaller than b.
 fn is_none_smaller(before: u8, b: u8, first: u8) -> bool
     ensures { result ≡ true → (before ≡ 0) × (b ≤ first) }
 {
-    if before == 0 {
-        return b <= first;
-    }
-    false
+    before == 0 && b <= first
 }
 
 // The threads that may step, not by b, and whose byte is smaller than b or that were in the set; the byte of thread 0 is `first`.
@@ -45,46 +34,24 @@ fn smaller(may: u8, before: u8, b: u8, first: u8) -> u8
     if is_none_smaller(before, b, first) {
         return 0;
     }
-    six(
-        is_smaller(may, before, b, 0, first),
-        is_smaller(may, before, b, 1, first + 1),
-        is_smaller(may, before, b, 2, first + 2),
-        is_smaller(may, before, b, 3, first + 3),
-        is_smaller(may, before, b, 4, first + 4),
-        is_smaller(may, before, b, 5, first + 5),
-    )
+    six(|u| is_smaller(may, before, b, u, u + first))
 }
 
 // The threads below t whose move is smaller than b are those below this one.
 fn moves_below(b: u8, t: u8) -> u8
     ensures { (result ≤ t) × ((u : ℕ) → u < result → ltb (u + 16) b ≡ true) × ((u : ℕ) → result ≤ u → u < t → ltb (u + 16) b ≡ false) }
 {
-    if b < 16 {
-        return 0;
-    }
-    if b - 16 < t {
-        return b - 16;
-    }
-    t
+    t.min(b.saturating_sub(16))
 }
 
 // Whether thread t may move, not by b, and was in the set or has a smaller twin whose move is smaller than b.
 fn is_farther(class: &[usize; 6], words: &[u64; 6], may: u8, before: u8, b: u8, t: u8) -> bool
     requires { t < 6 }
-    ensures { (groups : ℕ) (p : Program) → Lined class.now groups p
-        → result ≡ (has may t && (not (eqb b (t + 16))
-        && (any (λ u. twin_by_word p words.now t u && ltb (u + 16) b) (range 0 t) || has before t))) }
+    ensures { IsFarther class.now words.now may before b t result }
 {
-    if !is_in(may, t) {
-        return false;
-    }
-    if b == t + 16 {
-        return false;
-    }
-    if is_in(before, t) {
-        return true;
-    }
-    has_same_word(class, words, t, moves_below(b, t))
+    is_in(may, t)
+        && b != t + 16
+        && (is_in(before, t) || has_same_word(class, words, t, moves_below(b, t)))
 }
 
 // The threads that may move, not by b, and were in the set or have a smaller twin whose move is smaller than b.
@@ -96,14 +63,7 @@ fn farther(class: &[usize; 6], words: &[u64; 6], may: u8, before: u8, b: u8) -> 
     if is_none_smaller(before, b, 16) {
         return 0;
     }
-    six(
-        is_farther(class, words, may, before, b, 0),
-        is_farther(class, words, may, before, b, 1),
-        is_farther(class, words, may, before, b, 2),
-        is_farther(class, words, may, before, b, 3),
-        is_farther(class, words, may, before, b, 4),
-        is_farther(class, words, may, before, b, 5),
-    )
+    six(|t| is_farther(class, words, may, before, b, t))
 }
 
 // The sets behind the step b of thread t, behind which it may access or not and move or not: of late and far those that could be so.
@@ -127,8 +87,8 @@ pub(crate) fn candidates(
     let live = with_bit(old.live, t, accesses);
     let moving = with_bit(old.moving, t, moves);
     Sets {
-        live: live,
-        moving: moving,
+        live,
+        moving,
         late: smaller(live, old.late, b, 0),
         overdue: smaller(moving, old.overdue, b, 16),
         far: farther(class, words, moving, old.far, b),

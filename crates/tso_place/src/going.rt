@@ -14,53 +14,55 @@ ghost use Rattle.tso_place.specs.Reached.{Reached};
 use crate::choosing::candidates;
 use crate::place::Place;
 use crate::reading::{digit, word_behind};
+use file_decoder::Compiled;
 use file_lines::wide;
-use file_rows::Code;
 use theory_tso::Deed;
-use tso_machine::{Change, QueuedMachine, enabled, lean_step, may_access, started, thread_of};
+use tso_machine::{Act, QueuedMachine, enabled, lean_step, may_access, started, thread_of};
 use tso_order::{Sets, freed, six};
 
 // The threads, of six, that may do their next access.
-fn live_set(code: &Code, lengths: &[usize; 6], m: QueuedMachine) -> u8
-    requires { (σ : State) × Holds code.now lengths.now m σ }
-    ensures { (σ : State) → Holds code.now lengths.now m σ → result ≡ bytes_of (enabled σ) access }
+fn live_set(program: &Compiled, m: QueuedMachine) -> u8
+    requires { (σ : State) × Holds program.now.code program.now.lengths m σ }
+    ensures { (σ : State) → Holds program.now.code program.now.lengths m σ → result ≡ bytes_of (enabled σ) access }
 {
     six(
-        enabled(code, lengths, m, 0),
-        enabled(code, lengths, m, 1),
-        enabled(code, lengths, m, 2),
-        enabled(code, lengths, m, 3),
-        enabled(code, lengths, m, 4),
-        enabled(code, lengths, m, 5),
+        |u|
+            requires { (σ : State) × Holds program.now.code program.now.lengths m σ }
+            ensures { (σ : State) → Holds program.entry.now.code program.entry.now.lengths m σ → result ≡ enabled σ u }
+        { enabled(program, m, u) },
     )
 }
 
-// The place before the first step of the program in these rows, with these starting values: nobody has anything to move.
-pub fn begun(code: &Code, lengths: &[usize; 6], threads: usize, starting: [u32; 8]) -> Place
-    requires { (p : Program) × Loaded code.now lengths.now threads p × (starting ≡ initial p) × (all_accesses p.threads ≤ 16) }
-    ensures { (class : List ℕ) (groups : ℕ) (p : Program) → Loaded code.now lengths.now threads p
-        → starting ≡ initial p → all_accesses p.threads ≤ 16 → Lined class groups p
-        → Reached code.now lengths.now class threads groups result p [] }
+// The place before the first step of the program: nobody has anything to move.
+pub fn begun(program: &Compiled) -> Place
+    requires { (p : Program) × Loaded program.now.code program.now.lengths program.now.threads p × (program.now.starting ≡ initial p)
+        × (all_accesses p.threads ≤ 16) }
+    ensures { (class : List ℕ) (groups : ℕ) (p : Program) → Loaded program.now.code program.now.lengths program.now.threads p
+        → program.now.starting ≡ initial p → all_accesses p.threads ≤ 16 → Lined class groups p
+        → Reached program.now.code program.now.lengths class program.now.threads groups result p [] }
 {
-    let m = started(code, lengths, threads, starting);
-    let all = m.threads;
-    let memory = m.memory;
-    let last = m.last;
-    let heads = m.heads;
-    let tails = m.tails;
-    let slots = m.slots;
+    let m = started(program);
+    let live = live_set(program, m);
+    let QueuedMachine {
+        threads,
+        memory,
+        last,
+        heads,
+        tails,
+        slots,
+    } = m;
     Place {
-        threads: all,
-        memory: memory,
-        last: last,
-        heads: heads,
-        tails: tails,
-        slots: slots,
+        threads,
+        memory,
+        last,
+        heads,
+        tails,
+        slots,
         words: [0u64; 6],
         schedule: [0u8; 32],
         steps: 0,
         sets: Sets {
-            live: live_set(code, lengths, m),
+            live,
             moving: 0,
             late: 0,
             overdue: 0,
@@ -69,84 +71,73 @@ pub fn begun(code: &Code, lengths: &[usize; 6], threads: usize, starting: [u32; 
     }
 }
 
-// Whether a step that reads or not, its own pending store or not, looks at memory.
-fn looked(reads: bool, own: bool) -> bool
-    ensures { result ≡ (reads && not own) }
-{
-    if !reads {
-        return false;
-    }
-    !own
-}
-
-// What the step b of thread t did, by its change.
-fn deed_of(c: Change, t: u8, b: u8) -> Deed
+// What the step b of thread t did.
+fn deed_of(a: Act, t: u8, b: u8) -> Deed
     ensures { result ≡ record {
       thread = t;
-      number = c.number;
-      location = c.location;
+      number = a.number;
+      location = a.location;
       moves = leb 16 b;
-      locks = c.locks;
-      looks = c.reads && not c.own;
-      puts = c.puts;
+      locks = a.locks;
+      looks = a.reads && not a.own;
+      puts = a.puts;
     } }
 {
     Deed {
         thread: t,
-        number: c.number,
-        location: c.location,
+        number: a.number,
+        location: a.location,
         moves: 16 <= b,
-        locks: c.locks,
-        looks: looked(c.reads, c.own),
-        puts: c.puts,
+        locks: a.locks,
+        looks: a.reads && !a.own,
+        puts: a.puts,
     }
 }
 
 // The place behind the step b, which may be made. One copy of the place is made, and the step's changes are stored in it.
-pub fn advanced(code: &Code, lengths: &[usize; 6], class: &[usize; 6], x: Place, b: u8) -> Place
+pub fn advanced(program: &Compiled, x: Place, b: u8) -> Place
     requires { (threads : ℕ) × (groups : ℕ) × (p : Program) × (v : Schedule)
-        × Reached code.now lengths.now class.now threads groups x p v × (enabled (end_of p v) b ≡ true) }
+        × Reached program.now.code program.now.lengths program.now.class threads groups x p v × (enabled (end_of p v) b ≡ true) }
     ensures { (threads groups : ℕ) (p : Program) (v : Schedule)
-        → Reached code.now lengths.now class.now threads groups x p v → enabled (end_of p v) b ≡ true
-        → Reached code.now lengths.now class.now threads groups result p (v ++ (b ∷ [])) }
+        → Reached program.now.code program.now.lengths program.now.class threads groups x p v → enabled (end_of p v) b ≡ true
+        → Reached program.now.code program.now.lengths program.now.class threads groups result p (v ++ (b ∷ [])) }
 {
     let mut y = x;
     let n = y.steps;
-    let old = y.sets;
     let t = thread_of(b);
     let u = wide(t);
-    let thread = y.threads[u];
-    let memory = y.memory;
-    let last = y.last;
-    let slots = y.slots;
     let c = lean_step(
-        code, lengths, thread, memory, last, slots, y.heads[u], y.tails[u], b,
+        program,
+        y.threads[u],
+        y.memory,
+        y.last,
+        y.slots,
+        y.heads[u],
+        y.tails[u],
+        b,
     );
-    let k = c.thread;
-    let l = c.place;
-    let w = c.last;
-    let q = c.slot;
-    let at = c.at;
-    let source = c.source;
-    y.threads[u] = k;
-    y.memory[l] = c.value;
-    y.last[l] = w;
-    y.slots[at] = q;
+    y.threads[u] = c.thread;
+    y.memory[c.place] = c.value;
+    y.last[c.place] = c.last;
+    y.slots[c.at] = c.slot;
     y.heads[u] = c.head;
     y.tails[u] = c.tail;
-    let on = may_access(code, lengths, k.at, c.head, c.tail, t);
-    let s = candidates(class, &y.words, old, on, c.head < c.tail, t, b);
-    let e = deed_of(c, t, b);
-    let all = y.threads;
-    let values = y.memory;
-    let queues = y.slots;
-    let heads = y.heads;
-    let tails = y.tails;
-    let sets = freed(code, all, values, queues, &heads, &tails, s, e);
-    y.sets = sets;
+    let on = may_access(program, c.thread.at, c.head, c.tail, t);
+    let s = candidates(&program.class, &y.words, y.sets, on, c.head < c.tail, t, b);
+    let e = deed_of(c.act, t, b);
+    y.sets = freed(
+        &program.code,
+        &y.threads,
+        &y.memory,
+        &y.slots,
+        &y.heads,
+        &y.tails,
+        s,
+        e,
+    );
     y.schedule[n] = b;
     y.steps = n + 1;
-    let word = y.words[u];
-    y.words[u] = word_behind(t, word, digit(t, c.reads, source), c.puts);
+    let d = digit(t, c.act.reads, c.act.source);
+    y.words[u] = word_behind(t, y.words[u], d, c.act.puts);
     y
 }

@@ -23,17 +23,16 @@ fn lone(t: u8) -> u64
 pub fn digit(t: u8, reads: bool, e: LastWrite) -> u64
     ensures { (result ≡ cond reads (source_digit t (event_of e)) 1) × (result ≤ 400) }
 {
-    if !reads {
-        return 1;
-    }
     let n = e.number as u64;
-    if e.thread == t {
-        return n + 3;
+    if !reads {
+        1
+    } else if e.thread == t {
+        n + 3
+    } else if e.thread < 6 {
+        (e.thread as u64) * 16 + n + 19
+    } else {
+        2
     }
-    if e.thread < 6 {
-        return (e.thread as u64) * 16 + n + 19;
-    }
-    2
 }
 
 // Thread t's word behind a step that put, or behind an access with this digit that did not.
@@ -41,11 +40,9 @@ pub(crate) fn word_behind(t: u8, word: u64, d: u64, puts: bool) -> u64
     requires { d ≤ 400 }
     ensures { result ≡ word_behind t word d puts }
 {
-    if puts {
-        return lone(t);
+    if !puts && word < FULL_WORD {
+        word * 128 + d
+    } else {
+        lone(t)
     }
-    if word < FULL_WORD {
-        return word * 128 + d;
-    }
-    lone(t)
 }

@@ -13,7 +13,7 @@ use Rattle.spec_file.specs.declared.instruction.Access.TheVariants.{Store, Load,
 use Rattle.spec_file.specs.declared.instruction.Instruction.{Instruction}
 use Rattle.spec_file.specs.declared.instruction.Instruction.TheVariants.{Memory, Alone}
 use Rattle.spec_schedules.specs.Order.{Schedule}
-use Rattle.spec_schedules.specs.System.{run, Allowed}
+use Rattle.spec_schedules.specs.System.{Allowed}
 use Rattle.spec_sc.specs.Local.{Local, access_takes, access_puts, first_takes, first_puts, place_of, takes, puts}
 use Rattle.spec_sc.specs.State as SC
 use Rattle.spec_sc.specs.State.{Cell}

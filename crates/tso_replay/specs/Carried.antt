@@ -1,11 +1,10 @@
 -- What carrying out a schedule leaves.
-use Rattle.std.specs.Prelude.{ℕ, ◌≤◌, ◌≡◌, List, length, take}
+use Rattle.std.specs.Prelude.{ℕ, ◌≤◌, ◌≡◌, List, length, take, Ok}
 use Rattle.spec_file.specs.Program.{Program}
 use Rattle.spec_schedules.specs.Order.{Schedule}
 use Rattle.spec_schedules.specs.System.{run, Allowed}
 use Rattle.spec_model.specs.Answers.{refuses_from}
 use Rattle.graph_writer.specs.Notes.{Noted}
-use Rattle.machine_replay.specs.declared.replaying.Verdict.TheVariants.{Whole}
 use Rattle.machine_replay.specs.Carried.{refusal_of}
 use Rattle.spec_tso.specs.State.{TSO, start}
 use Rattle.tso_machine.specs.Held.{Holds}
@@ -22,5 +21,5 @@ pub record HoldsRun (code lengths : List ℕ) (p : Program) (s : Schedule) (r : 
   pub holds : Holds code lengths r.machine (run TSO (start p) (take r.steps s))
   pub notes_counted : r.notes ≡ length (notes (start p) (take r.steps s))
   pub noted : Noted r.log (notes (start p) (take r.steps s))
-  pub answer : refusal_of r.verdict ≡ refuses_from TSO 0 (start p) s
-  pub all : r.verdict ≡ Whole → take r.steps s ≡ s
+  pub answer : refusal_of r.end ≡ refuses_from TSO 0 (start p) s
+  pub all : r.end ≡ Ok tt → take r.steps s ≡ s

@@ -5,7 +5,7 @@ use Rattle.spec_schedules.specs.Order.{Schedule}
 use Rattle.graph_writer.specs.Notes.{Note}
 use Rattle.spec_tso.specs.State.{State, thread_of, kind_of, owner, step}
 use Rattle.spec_tso.specs.Actions.{action}
-use Rattle.tso_machine.specs.declared.stepping.Stepped.{Stepped}
+use Rattle.tso_machine.specs.declared.stepping.Act.{Act}
 use Rattle.tso_machine.specs.Steps.{source_of, cell_at}
 
 -- what the step b states
@@ -29,14 +29,14 @@ notes σ [] = []
 notes σ (b ∷ s) = noted σ b ++ notes (step σ b) s
 
 -- a step's note as eight bytes, as the code has it
-unfoldable pub bytes_of : ℕ → Stepped → List ℕ
-bytes_of b r =
+unfoldable pub bytes_of : ℕ → Act → List ℕ
+bytes_of b a =
     owner b
-    ∷ r.number
-    ∷ r.location
-    ∷ cond r.reads 1 0
-    ∷ r.source.thread
-    ∷ r.source.number
-    ∷ cond r.puts 1 0
+    ∷ a.number
+    ∷ a.location
+    ∷ cond a.reads 1 0
+    ∷ a.source.thread
+    ∷ a.source.number
+    ∷ cond a.puts 1 0
     ∷ 0
     ∷ []

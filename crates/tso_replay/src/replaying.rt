@@ -7,14 +7,15 @@ ghost use Rattle.machine.specs.Held.{Loaded};
 ghost use Rattle.tso_replay.specs.Carried.{HoldsRun};
 
 use crate::noting::note_step;
-use file_rows::Code;
-use machine_replay::Verdict;
+use file_decoder::Compiled;
+use spec_file::Refusal;
 use tso_machine::{QueuedMachine, enabled, ended_all, started, step};
 
-// The verdict, the machine behind the steps that were made, the notes of these and their number, the steps themselves, and how many.
+// Whether the schedule goes through whole or what refuses it, the machine behind the steps that were made, the notes of these and their
+// number, the steps themselves, and how many.
 #[derive(Clone, Copy)]
 pub struct Run {
-    pub verdict: Verdict,
+    pub end: Result<(), Refusal>,
     pub machine: QueuedMachine,
     pub log: [u8; 192],
     pub notes: usize,
@@ -22,59 +23,40 @@ pub struct Run {
     pub steps: usize,
 }
 
-// A run that ends here.
-fn ended_here(
-    verdict: Verdict,
-    m: QueuedMachine,
-    log: [u8; 192],
-    notes: usize,
-    made: [u8; 32],
-    steps: usize,
-) -> Run
-    ensures { result ≡ record { verdict = verdict; machine = m; log = log; notes = notes; schedule = made; steps = steps } }
-{
-    Run {
-        verdict: verdict,
-        machine: m,
-        log: log,
-        notes: notes,
-        schedule: made,
-        steps: steps,
-    }
-}
-
-// Carries out a schedule of the program in these rows, which has at most sixteen accesses, from these starting values.
-pub fn replayed(
-    code: &Code,
-    lengths: &[usize; 6],
-    threads: usize,
-    starting: [u32; 8],
-    schedule: &[u8],
-) -> Run
-    requires { (p : Program) × Loaded code.now lengths.now threads p × (starting ≡ initial p)
+// Carries out a schedule of a program, which has at most sixteen accesses.
+pub fn replayed(program: &Compiled, schedule: &[u8]) -> Run
+    requires { (p : Program) × Loaded program.now.code program.now.lengths program.now.threads p × (program.now.starting ≡ initial p)
         × (all_accesses p.threads ≤ 16) }
-    ensures { (p : Program) → Loaded code.now lengths.now threads p → starting ≡ initial p
-        → all_accesses p.threads ≤ 16 → HoldsRun code.now lengths.now p schedule.now result }
+    ensures { (p : Program) → Loaded program.now.code program.now.lengths program.now.threads p → program.now.starting ≡ initial p
+        → all_accesses p.threads ≤ 16 → HoldsRun program.now.code program.now.lengths p schedule.now result }
 {
-    let mut m = started(code, lengths, threads, starting);
-    let mut log = [0u8; 192];
-    let mut count = 0;
-    let mut made = [0u8; 32];
-    let mut k = 0;
-    while k < schedule.len() {
-        let b = schedule[k];
-        if !enabled(code, lengths, m, b) {
-            return ended_here(Verdict::Refused(20, k), m, log, count, made, k);
+    let mut run = Run {
+        end: Ok(()),
+        machine: started(program),
+        log: [0u8; 192],
+        notes: 0,
+        schedule: [0u8; 32],
+        steps: 0,
+    };
+    for &b in schedule {
+        if !enabled(program, run.machine, b) {
+            run.end = Err(Refusal {
+                number: 20,
+                place: run.steps,
+            });
+            return run;
         }
-        let r = step(code, lengths, m, b);
-        let next = r.machine;
-        m = next;
-        made[k] = b;
-        count = note_step(&mut log, count, b, r);
-        k += 1;
+        let r = step(program, run.machine, b);
+        run.machine = r.machine;
+        run.schedule[run.steps] = b;
+        run.notes = note_step(&mut run.log, run.notes, b, r.act);
+        run.steps += 1;
     }
-    if ended_all(lengths, m) {
-        return ended_here(Verdict::Whole, m, log, count, made, k);
+    if !ended_all(&program.lengths, run.machine) {
+        run.end = Err(Refusal {
+            number: 21,
+            place: run.steps,
+        });
     }
-    ended_here(Verdict::Refused(21, k), m, log, count, made, k)
+    run
 }

@@ -1,8 +1,8 @@
 -- R3 as the code asks it: sets of threads that could wake a step, and the steps that none but its own thread could.
 use Prim.Native.Nat.{ℕ, zero, suc, ◌+◌, ◌-◌, ◌*◌, ◌%◌, ◌<◌, ◌≤◌}
-use mathlib.Core.Path.{◌≡◌, refl, sym, ap, ap₂, subst, ◌∙◌}
+use mathlib.Core.Path.{◌≡◌, refl, sym, ap, ap₂, ◌∙◌}
 use mathlib.Core.Logic.{⊎_elim}
-use mathlib.Core.Bool.{Bool, true, false, cond, not, ◌&&◌, ◌||◌, true≢false, false≢true}
+use mathlib.Core.Bool.{Bool, true, false, not, ◌&&◌, ◌||◌, true≢false, false≢true}
 use mathlib.Core.Option.{Option, none, some}
 use mathlib.Core.List.Memᴰ
 use mathlib.Core.List.{List, [], ◌∷◌, ◌++◌, Memᴰ}
@@ -12,7 +12,6 @@ use native.Mathlib.Decide.{dec_lt}
 use lib.Dec.{eqb}
 use lib.ListN.{length, get_or, drop}
 use borrow.Author.Tests.{eqb-true, eq-eqb}
-use Rattle.spec_file.specs.declared.instruction.Access.{Access}
 use Rattle.spec_file.specs.declared.instruction.Access.TheVariants.{Store, Load, FetchAdd, CompareSwap}
 use Rattle.spec_file.specs.declared.instruction.Instruction.{Instruction}
 use Rattle.spec_file.specs.declared.instruction.Instruction.TheVariants.{Memory, Alone}
@@ -21,22 +20,21 @@ use Rattle.spec_file.proofs.Tests.{equal_tests}
 use Rattle.file_rows.specs.Rows.{instruction_at, thread_code}
 use Rattle.spec_schedules.specs.Lists.{range, any, all}
 use Rattle.spec_schedules.specs.Order.{Schedule}
-use Rattle.spec_schedules.specs.System.{Allowed}
 use Rattle.spec_schedules.proofs.Lists.{in_range_lem, of_range, any_yes, any_of, all_at, all_of}
 use Rattle.machine_access.proofs.HeldSettling.{code_at_lem, code_end}
-use Rattle.spec_sc.specs.Local.{Local, first_place, first_takes, access_takes, place_of, takes}
+use Rattle.spec_sc.specs.Local.{first_place, first_takes, access_takes, place_of, takes}
 use Rattle.spec_sc.proofs.Access.{nothing_pending}
 use Rattle.search_place.proofs.RowAccess.{place_first}
 use Rattle.theory_search.specs.Ahead.{could_meet}
 use Rattle.spec_schedules.specs.Sets.{has}
 use Rattle.theory_sc.specs.Sets.{set_of}
 use Rattle.theory_sc.specs.Sleepers.{reads_left, writes_left, meets}
-use Rattle.theory_sc.proofs.Sets.{has_none, set_has, set_none, set_same}
+use Rattle.theory_sc.proofs.Sets.{has_none, set_has, set_none}
 use Rattle.theory_sc.proofs.WhatIsLeft.{left_exact}
 use Rattle.machine.specs.Held.{thread_at}
 use Rattle.search_rules.specs.Left.{ShortAt, meets_at}
 use Rattle.spec_tso.specs.Queue.{Entry, movable, oldest_place}
-use Rattle.spec_tso.specs.State.{Thread, State, Kind, access, move, unqueued, thread_of, access_locks, first_locks, locked, target, place, kind_of, owner, byte_for, enabled, start, TSO}
+use Rattle.spec_tso.specs.State.{Thread, State, Kind, access, move, unqueued, thread_of, access_locks, first_locks, locked, target, place, byte_for, enabled, start, TSO}
 use Rattle.spec_tso.specs.Graph.{end_of}
 use Rattle.spec_tso.specs.Actions.{action}
 use Rattle.spec_tso.proofs.Bytes.{kind_for, owner_for}
@@ -45,7 +43,7 @@ use Rattle.spec_tso.proofs.Seen.{seen_thread}
 use Rattle.spec_tso.proofs.Regular.{place_in, regular_run, regular_start}
 use Rattle.theory_tso.specs.Rules.{late, taken, fears, wakes, unwoken, asleep}
 use Rattle.tso_machine.specs.Slots.{no_store, entry_at, queue_at}
-use Rattle.tso_machine.specs.Held.{core_of, head_at, tail_at, Holds}
+use Rattle.tso_machine.specs.Held.{core_of, Holds}
 use Rattle.tso_machine.specs.declared.state.Pending.{Pending}
 use Rattle.tso_machine.specs.declared.state.QueuedMachine.{QueuedMachine}
 use Rattle.theory_search.specs.LateSet.{back_at}

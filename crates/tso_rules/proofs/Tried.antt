@@ -1,12 +1,11 @@
 -- R1, R2 and R2 far as the code asks them: one law for each answer.
-use Prim.Native.Nat.{ℕ, ◌+◌, ◌-◌, ◌<◌, ◌≤◌}
-use mathlib.Core.Path.{◌≡◌, refl, sym, ap, ap₂, subst, ◌∙◌}
-use mathlib.Core.Bool.{Bool, true, false, not, ◌&&◌, ◌||◌, true≢false}
-use mathlib.Core.List.{List, [], ◌∷◌, Memᴰ}
+use Prim.Native.Nat.{ℕ, ◌+◌, ◌<◌, ◌≤◌}
+use mathlib.Core.Path.{◌≡◌, refl, sym, ap, ap₂, ◌∙◌}
+use mathlib.Core.Bool.{Bool, true, false, not, ◌&&◌}
+use mathlib.Core.List.{List, Memᴰ}
 use native.Mathlib.Omega.{arith}
-use lib.Dec.{eqb, ltb}
+use lib.Dec.{eqb}
 use lib.ListN.{get_or}
-use borrow.Author.Tests.{le-ltb}
 use Rattle.spec_file.specs.Program.{Program}
 use Rattle.spec_file.proofs.DigitValues.{both}
 use Rattle.spec_file.proofs.Tests.{equal_tests}
@@ -15,20 +14,21 @@ use Rattle.spec_schedules.specs.Order.{Schedule}
 use Rattle.spec_schedules.proofs.Lists.{of_range, any_yes, any_of}
 use Rattle.spec_model.specs.Exchange.{together}
 use Rattle.spec_schedules.specs.Sets.{has}
-use Rattle.spec_tso.specs.State.{State, Kind, access, move, kind_of, owner, byte_for, enabled}
+use Rattle.spec_tso.specs.State.{State, access, move, owner, byte_for, enabled}
 use Rattle.spec_tso.specs.Graph.{end_of}
 use Rattle.spec_tso.specs.Actions.{action}
 use Rattle.spec_tso.proofs.Bytes.{ByteCase, of_access, of_move, byte_case, kind_low, owner_for}
 use Rattle.spec_tso.proofs.Steps.{enabled_small}
-use Rattle.spec_tso.specs.TotalStoreOrder.{tso}
 use Rattle.theory_tso.specs.Rules.{late, taken, twin}
 use Rattle.theory_tso.specs.Far.{far}
 use Rattle.theory_tso.proofs.Far.{far_access}
 use Rattle.theory_search.specs.LateSet.{back_at}
-use Rattle.theory_tso.specs.LateBytes.{bytes_of, late_at, far_at}
+use Rattle.theory_tso.specs.LateBytes.{late_at, far_at}
 use Rattle.theory_tso.proofs.TwinWords.{twin_by_word_lem}
 use Rattle.tso_place.specs.Reached.{Reached}
 use Rattle.tso_place.specs.declared.place.Place as Held
+use Rattle.theory_sc.proofs.Sets.{has_none}
+use Rattle.tso_order.specs.declared.sets.Sets.{Sets}
 use Rattle.tso_order.proofs.Choices.{bytes_has}
 use Rattle.tso_rules.specs.Tried.{tried}
 
@@ -36,34 +36,26 @@ any_same : (f g : ℕ → Bool) (l : List ℕ) → ((u : ℕ) → Memᴰ u l →
 any_same f g l e = equal_tests (any f l) (any g l)
     (λ q. let r = any_yes f l q in any_of g l r.0 r.1 (sym (e r.0 r.1) ∙ r.2)) (λ q. let r = any_yes g l q in any_of f l r.0 r.1 (e r.0 r.1 ∙ r.2))
 
--- ---- the answers
+-- ---- the answers: whether it may step, is late, is far, and has a smaller twin
 module _ (p : Program) (v : Schedule) (b : ℕ) where
   pub not_enabled : enabled (end_of p v) b ≡ false → false ≡ tried p v b
   unfolding tried
   not_enabled e = sym (rw e)
 
-  pub is_late : late_at p v b ≡ true → false ≡ tried p v b
+  free_is : (m l f w : Bool) → enabled (end_of p v) b ≡ m → late_at p v b ≡ l → (m ≡ true → far p v (end_of p v) b ≡ f) → any (twin p (end_of p v) (owner b)) (range 0 (owner b)) ≡ w
+      → ((m && (not l && not f)) && not w) ≡ tried p v b
   unfolding tried back_at
-  is_late e = let q = both (enabled (end_of p v) b) _ e in let x = q.0 in let y = q.1 in sym (rw (x, y))
-
-  pub is_far : enabled (end_of p v) b ≡ true → late_at p v b ≡ false → far_at p v b ≡ true → false ≡ tried p v b
-  unfolding tried back_at far
-  is_far m l e = let y = (both (enabled (end_of p v) b) _ e).1 in sym (rw (m, y) (ends (not (late (taken p v) (action (end_of p v) b))) (not (any (twin p (end_of p v) (owner b)) (range 0 (owner b))))))
+  free_is false l f w em el ef ew = not_enabled em
+  free_is true true f w em el ef ew = let y = (both (enabled (end_of p v) b) _ el).1 in sym (rw (em, y))
+  free_is true false f w em el ef ew =
+      let y : late (taken p v) (action (end_of p v) b) ≡ false = sym (ap (λ (x : Bool). x && late (taken p v) (action (end_of p v) b)) em) ∙ el in
+      sym (rw (em, y, ef refl, ew) (turned (not w) (not f)))
     where
-      ends : (x y : Bool) → (x && (y && false)) ≡ false
-      ends true true = refl
-      ends true false = refl
-      ends false y = refl
-
-  tried_else : enabled (end_of p v) b ≡ true → late_at p v b ≡ false → far p v (end_of p v) b ≡ false → (q : Bool) → q ≡ any (twin p (end_of p v) (owner b)) (range 0 (owner b)) → not q ≡ tried p v b
-  unfolding tried back_at
-  tried_else m l f q e =
-      let y : late (taken p v) (action (end_of p v) b) ≡ false = sym (ap (λ (x : Bool). x && late (taken p v) (action (end_of p v) b)) m) ∙ l in
-      ap not e ∙ sym (rw (m, y, f) (and_true (not (any (twin p (end_of p v) (owner b)) (range 0 (owner b))))))
-    where
-      and_true : (x : Bool) → (x && true) ≡ x
-      and_true true = refl
-      and_true false = refl
+      turned : (x y : Bool) → (x && y) ≡ (y && x)
+      turned true true = refl
+      turned true false = refl
+      turned false true = refl
+      turned false false = refl
 
 module _ (code lengths class : List ℕ) (threads groups : ℕ) (x : Held.Place) (p : Program) (v : Schedule) (r : Reached code lengths class threads groups x p v) (t : ℕ) (h : t < 6) where
   twins : any (λ u. together p.groups u t && eqb (get_or x.words u 0) (get_or x.words t 0)) (range 0 t) ≡ any (twin p (end_of p v) t) (range 0 t)
@@ -95,16 +87,23 @@ module _ (code lengths class : List ℕ) (threads groups : ℕ) (x : Held.Place)
   abbrev shares : List ℕ → Bool
   shares ws = any (λ u. together p.groups u t && eqb (get_or ws u 0) (get_or ws t 0)) (range 0 t)
 
-  by_twins : (b : ℕ) → owner b ≡ t → (ws : List ℕ) → x.words ≡ ws → (q : Bool) → q ≡ any (λ u. together p.groups u t && eqb (get_or ws u 0) (get_or ws t 0)) (range 0 t) → q ≡ any (twin p (end_of p v) (owner b)) (range 0 (owner b))
-  by_twins b e ws ew q eq = eq ∙ ap shares (sym ew) ∙ twins ∙ ap (λ (i : ℕ). any (twin p (end_of p v) i) (range 0 i)) (sym e)
+  by_twins : (b : ℕ) → owner b ≡ t → (ws : List ℕ) → x.words ≡ ws → any (twin p (end_of p v) (owner b)) (range 0 (owner b)) ≡ shares ws
+  by_twins b e ws ew = ap (λ (i : ℕ). any (twin p (end_of p v) i) (range 0 i)) e ∙ sym twins ∙ ap shares ew
 
-  pub access_else : enabled (end_of p v) t ≡ true → late_at p v t ≡ false → (ws : List ℕ) → x.words ≡ ws → (q : Bool) → q ≡ any (λ u. together p.groups u t && eqb (get_or ws u 0) (get_or ws t 0)) (range 0 t) → not q ≡ tried p v t
-  unfolding byte_for
-  access_else m l ws ew q eq = tried_else p v t m l (far_access p v t (kind_low t (omega (arith, h)))) q (by_twins t (owner_for access t (omega (arith, h))) ws ew q eq)
+  module _ (s : Sets) (es : x.sets ≡ s) (ws : List ℕ) (ew : x.words ≡ ws) where
+    pub access_free : ((has s.live t && (not (has s.late t) && not (has 0 t))) && not (any (λ u. together p.groups u t && eqb (get_or ws u 0) (get_or ws t 0)) (range 0 t))) ≡ tried p v t
+    unfolding byte_for
+    access_free = free_is p v t (has s.live t) (has s.late t) (has 0 t) (shares ws)
+        (sym (live_has s.live (ap (λ (y : Sets). y.live) es))) (sym (late_has s.late (ap (λ (y : Sets). y.late) es)))
+        (λ e. far_access p v t (kind_low t (omega (arith, h))) ∙ sym (has_none t)) (by_twins t (owner_for access t (omega (arith, h))) ws ew)
 
-  pub move_else : enabled (end_of p v) (t + 16) ≡ true → late_at p v (t + 16) ≡ false → far_at p v (t + 16) ≡ false → (ws : List ℕ) → x.words ≡ ws → (q : Bool) → q ≡ any (λ u. together p.groups u t && eqb (get_or ws u 0) (get_or ws t 0)) (range 0 t) → not q ≡ tried p v (t + 16)
-  unfolding byte_for back_at far
-  move_else m l f ws ew q eq = tried_else p v (t + 16) m l (sym (ap (λ (y : Bool). y && far p v (end_of p v) (t + 16)) m) ∙ f) q (by_twins (t + 16) (owner_for move t (omega (arith, h))) ws ew q eq)
+    pub move_free : ((has s.moving t && (not (has s.overdue t) && not (has s.far t))) && not (any (λ u. together p.groups u t && eqb (get_or ws u 0) (get_or ws t 0)) (range 0 t))) ≡ tried p v (t + 16)
+    unfolding byte_for back_at far
+    move_free =
+        let may = moving_has s.moving (ap (λ (y : Sets). y.moving) es) in
+        free_is p v (t + 16) (has s.moving t) (has s.overdue t) (has s.far t) (shares ws)
+        (sym may) (sym (overdue_has s.overdue (ap (λ (y : Sets). y.overdue) es)))
+        (λ e. sym (ap (λ (y : Bool). y && far p v (end_of p v) (t + 16)) (sym may ∙ e)) ∙ sym (far_has s.far (ap (λ (y : Sets). y.far) es))) (by_twins (t + 16) (owner_for move t (omega (arith, h))) ws ew)
 
 -- a byte of no thread
 pub nobody : (σ : State) (b : ℕ) → (owner b < 6 → ⊥) → enabled σ b ≡ false

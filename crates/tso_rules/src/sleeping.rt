@@ -14,12 +14,12 @@ ghost use Rattle.tso_order.specs.Freed.{Ends};
 ghost use Rattle.tso_place.specs.Reached.{Reached};
 ghost use Rattle.tso_rules.specs.Shown.{Shown, ReadyAt};
 
+use file_decoder::Compiled;
 use file_lines::wide;
-use file_rows::Code;
 use search_place::{is_in, location_at};
 use search_rules::{is_reader, meets};
 use tso_machine::{Pending, locks_at};
-use tso_order::{Sets, is_pending, six};
+use tso_order::{Sets, is_pending};
 use tso_place::Place;
 
 // A late step: its thread, its location, and whether one that only looks at memory could make it wait too, as one that could put.
@@ -35,7 +35,7 @@ fn wakes(
     left: &[u8; 192],
     lengths: &[usize; 6],
     at: &[usize; 6],
-    slots: [Pending; 16],
+    slots: &[Pending; 16],
     heads: &[u8; 6],
     tails: &[u8; 6],
     a: Awaited,
@@ -43,17 +43,13 @@ fn wakes(
 ) -> bool
     requires { (u < 6) × ShortAt lengths.now at.now × Ends tails.now }
     ensures { (code : List ℕ) (σ : State) → Left code lengths.now left.now
-        → Shown code lengths.now at.now slots heads.now tails.now σ → a.location < 8
+        → Shown code lengths.now at.now slots.now heads.now tails.now σ → a.location < 8
         → result ≡ (not (eqb u a.thread) && wakes (some a.writer) a.location (thread_of σ u)) }
 {
-    if u == a.thread {
-        return false;
-    }
     let i = wide(u);
-    if is_pending(slots, heads[i], tails[i], a.location) {
-        return true;
-    }
-    meets(left, lengths, at, i, a.location, a.writer)
+    u != a.thread
+        && (is_pending(slots, heads[i], tails[i], a.location)
+            || meets(left, lengths, at, i, a.location, a.writer))
 }
 
 // Whether some other thread could.
@@ -61,56 +57,53 @@ fn is_woken(
     left: &[u8; 192],
     lengths: &[usize; 6],
     at: &[usize; 6],
-    slots: [Pending; 16],
+    slots: &[Pending; 16],
     heads: &[u8; 6],
     tails: &[u8; 6],
     a: Awaited,
 ) -> bool
     requires { ShortAt lengths.now at.now × Ends tails.now }
     ensures { (code : List ℕ) (σ : State) → Left code lengths.now left.now
-        → Shown code lengths.now at.now slots heads.now tails.now σ → a.location < 8
+        → Shown code lengths.now at.now slots.now heads.now tails.now σ → a.location < 8
         → result ≡ any (λ u. not (eqb u a.thread) && wakes (some a.writer) a.location (thread_of σ u)) (range 0 6) }
 {
-    let mut u = 0u8;
-    while u < 6 {
+    for u in 0u8..6 {
         if wakes(left, lengths, at, slots, heads, tails, a, u) {
             return true;
         }
-        u += 1;
     }
     false
 }
 
 // Whether thread t's next access may be done, is late, and nothing left to the others could make it wait. A store waits for nothing.
 fn is_access_asleep(
-    code: &Code,
+    program: &Compiled,
     left: &[u8; 192],
-    lengths: &[usize; 6],
     at: &[usize; 6],
-    slots: [Pending; 16],
+    slots: &[Pending; 16],
     heads: &[u8; 6],
     tails: &[u8; 6],
     late: u8,
     t: u8,
 ) -> bool
-    requires { (t < 6) × (has late t ≡ true → get_or at.now t 0 < 16) × ShortAt lengths.now at.now × Ends tails.now }
-    ensures { (σ : State) → Left code.now lengths.now left.now
-        → Shown code.now lengths.now at.now slots heads.now tails.now σ
+    requires { (t < 6) × (has late t ≡ true → get_or at.now t 0 < 16) × ShortAt program.now.lengths at.now × Ends tails.now }
+    ensures { (σ : State) → Left program.now.code program.now.lengths left.now
+        → Shown program.now.code program.now.lengths at.now slots.now heads.now tails.now σ
         → (has late t ≡ true → ReadyAt σ access t) → result ≡ (has late t && unwoken σ (byte_for access t)) }
 {
     if !is_in(late, t) {
         return false;
     }
     let row = wide(t) * 16 + at[wide(t)];
-    if !is_reader(code, row) {
+    if !is_reader(&program.code, row) {
         return true;
     }
     let a = Awaited {
         thread: t,
-        location: location_at(code, row),
-        writer: locks_at(code, row),
+        location: location_at(&program.code, row),
+        writer: locks_at(&program.code, row),
     };
-    !is_woken(left, lengths, at, slots, heads, tails, a)
+    !is_woken(left, &program.lengths, at, slots, heads, tails, a)
 }
 
 // Whether thread t may move, its move is late, and nothing left to the others could make it wait.
@@ -118,7 +111,7 @@ fn is_move_asleep(
     left: &[u8; 192],
     lengths: &[usize; 6],
     at: &[usize; 6],
-    slots: [Pending; 16],
+    slots: &[Pending; 16],
     heads: &[u8; 6],
     tails: &[u8; 6],
     overdue: u8,
@@ -126,7 +119,7 @@ fn is_move_asleep(
 ) -> bool
     requires { (t < 6) × ShortAt lengths.now at.now × Ends tails.now }
     ensures { (code : List ℕ) (σ : State) → Left code lengths.now left.now
-        → Shown code lengths.now at.now slots heads.now tails.now σ
+        → Shown code lengths.now at.now slots.now heads.now tails.now σ
         → (has overdue t ≡ true → ReadyAt σ move t) → result ≡ (has overdue t && unwoken σ (byte_for move t)) }
 {
     if !is_in(overdue, t) {
@@ -143,29 +136,26 @@ fn is_move_asleep(
 
 // Whether some access is asleep for good.
 fn is_some_access(
-    code: &Code,
+    program: &Compiled,
     left: &[u8; 192],
-    lengths: &[usize; 6],
     at: &[usize; 6],
-    slots: [Pending; 16],
+    slots: &[Pending; 16],
     heads: &[u8; 6],
     tails: &[u8; 6],
     late: u8,
 ) -> bool
-    requires { ((t : ℕ) → t < 6 → has late t ≡ true → get_or at.now t 0 < 16) × ShortAt lengths.now at.now × Ends tails.now }
-    ensures { (σ : State) → Left code.now lengths.now left.now
-        → Shown code.now lengths.now at.now slots heads.now tails.now σ
+    requires { ((t : ℕ) → t < 6 → has late t ≡ true → get_or at.now t 0 < 16) × ShortAt program.now.lengths at.now × Ends tails.now }
+    ensures { (σ : State) → Left program.now.code program.now.lengths left.now
+        → Shown program.now.code program.now.lengths at.now slots.now heads.now tails.now σ
         → ((t : ℕ) → t < 6 → has late t ≡ true → ReadyAt σ access t)
         → result ≡ any (λ t. has late t && unwoken σ (byte_for access t)) (range 0 6) }
 {
-    six(
-        is_access_asleep(code, left, lengths, at, slots, heads, tails, late, 0),
-        is_access_asleep(code, left, lengths, at, slots, heads, tails, late, 1),
-        is_access_asleep(code, left, lengths, at, slots, heads, tails, late, 2),
-        is_access_asleep(code, left, lengths, at, slots, heads, tails, late, 3),
-        is_access_asleep(code, left, lengths, at, slots, heads, tails, late, 4),
-        is_access_asleep(code, left, lengths, at, slots, heads, tails, late, 5),
-    ) != 0
+    for t in 0u8..6 {
+        if is_access_asleep(program, left, at, slots, heads, tails, late, t) {
+            return true;
+        }
+    }
+    false
 }
 
 // Whether some move is.
@@ -173,61 +163,60 @@ fn is_some_move(
     left: &[u8; 192],
     lengths: &[usize; 6],
     at: &[usize; 6],
-    slots: [Pending; 16],
+    slots: &[Pending; 16],
     heads: &[u8; 6],
     tails: &[u8; 6],
     overdue: u8,
 ) -> bool
     requires { ShortAt lengths.now at.now × Ends tails.now }
     ensures { (code : List ℕ) (σ : State) → Left code lengths.now left.now
-        → Shown code lengths.now at.now slots heads.now tails.now σ
+        → Shown code lengths.now at.now slots.now heads.now tails.now σ
         → ((t : ℕ) → t < 6 → has overdue t ≡ true → ReadyAt σ move t)
         → result ≡ any (λ t. has overdue t && unwoken σ (byte_for move t)) (range 0 6) }
 {
-    six(
-        is_move_asleep(left, lengths, at, slots, heads, tails, overdue, 0),
-        is_move_asleep(left, lengths, at, slots, heads, tails, overdue, 1),
-        is_move_asleep(left, lengths, at, slots, heads, tails, overdue, 2),
-        is_move_asleep(left, lengths, at, slots, heads, tails, overdue, 3),
-        is_move_asleep(left, lengths, at, slots, heads, tails, overdue, 4),
-        is_move_asleep(left, lengths, at, slots, heads, tails, overdue, 5),
-    ) != 0
+    for t in 0u8..6 {
+        if is_move_asleep(left, lengths, at, slots, heads, tails, overdue, t) {
+            return true;
+        }
+    }
+    false
 }
 
 // Whether no step is late.
 fn is_none_late(s: Sets) -> bool
     ensures { result ≡ true → (s.late ≡ 0) × (s.overdue ≡ 0) }
 {
-    if s.late == 0 {
-        return s.overdue == 0;
-    }
-    false
+    s.late == 0 && s.overdue == 0
 }
 
 // Whether some byte that may step is asleep for good.
-pub fn some_asleep(code: &Code, lengths: &[usize; 6], left: &[u8; 192], x: Place) -> bool
+pub fn some_asleep(program: &Compiled, left: &[u8; 192], x: &Place) -> bool
     requires { ((class : List ℕ) × (threads : ℕ) × (groups : ℕ) × (p : Program) × (v : Schedule)
-        × Reached code.now lengths.now class threads groups x p v) × Left code.now lengths.now left.now }
+        × Reached program.now.code program.now.lengths class threads groups x.now p v) × Left program.now.code program.now.lengths left.now }
     ensures { (class : List ℕ) (threads groups : ℕ) (p : Program) (v : Schedule)
-        → Reached code.now lengths.now class threads groups x p v
+        → Reached program.now.code program.now.lengths class threads groups x.now p v
         → result ≡ any (asleep p v (end_of p v)) TSO.names }
 {
     let s = x.sets;
     if is_none_late(s) {
         return false;
     }
-    let a = x.threads[0];
-    let b = x.threads[1];
-    let c = x.threads[2];
-    let d = x.threads[3];
-    let e = x.threads[4];
-    let f = x.threads[5];
-    let at = [a.at, b.at, c.at, d.at, e.at, f.at];
-    let slots = x.slots;
-    let heads = x.heads;
-    let tails = x.tails;
-    if is_some_access(code, left, lengths, &at, slots, &heads, &tails, s.late) {
-        return true;
-    }
-    is_some_move(left, lengths, &at, slots, &heads, &tails, s.overdue)
+    let at = [
+        x.threads[0].at,
+        x.threads[1].at,
+        x.threads[2].at,
+        x.threads[3].at,
+        x.threads[4].at,
+        x.threads[5].at,
+    ];
+    is_some_access(program, left, &at, &x.slots, &x.heads, &x.tails, s.late)
+        || is_some_move(
+            left,
+            &program.lengths,
+            &at,
+            &x.slots,
+            &x.heads,
+            &x.tails,
+            s.overdue,
+        )
 }

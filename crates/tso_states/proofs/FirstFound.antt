@@ -1,13 +1,12 @@
 -- The first failing schedule behind a prefix as the code seeks it: with one next step, over the next steps in turn, and with marks.
 use Prim.Native.Nat.{ℕ, ◌+◌, ◌-◌, ◌<◌, ◌≤◌}
 use mathlib.Core.Path.{◌≡◌, refl, sym, ap, ap₂, subst, ◌∙◌}
-use mathlib.Core.Bool.{Bool, true, false}
+use mathlib.Core.Bool.{Bool, true, false, cond}
 use mathlib.Core.Option.{Option, none, some}
 use mathlib.Core.List.{List, [], ◌∷◌, ◌++◌}
 use native.Mathlib.Omega.{arith}
-use lib.ListN.{length, take}
+use lib.ListN.{length}
 use Rattle.spec_file.specs.Program.{Program}
-use Rattle.spec_file.specs.WellFormed.{all_accesses}
 use Rattle.spec_schedules.specs.Lists.{head_of}
 use Rattle.spec_schedules.specs.Order.{Schedule}
 use Rattle.spec_schedules.specs.System.{Allowed, ended}
@@ -37,18 +36,7 @@ use Rattle.theory_tso_key.proofs.Shape.{words_decide, as_wide}
 use Rattle.tso_key.specs.declared.spot.Spot.{Spot}
 use Rattle.tso_states.specs.Position.{Position}
 use Rattle.tso_states.specs.Known.{Marked}
-use Rattle.tso_states.specs.FoundOf.{found_of}
-use Rattle.tso_states.specs.declared.seeking.First.{First}
 use Rattle.tso_states.proofs.Numbered.{Sleeps}
-
--- ---- an answer
-pub found_none : (r : First) → r.found ≡ false → none ≡ found_of r
-unfolding found_of
-found_none r e = sym (rw e refl)
-
-pub found_some : (r : First) → r.found ≡ true → some (take r.steps r.schedule) ≡ found_of r
-unfolding found_of
-found_some r e = sym (rw e refl)
 
 -- ---- with one next step
 module _ (p : Program) (steps : ℕ) (v : Schedule) (b : ℕ) where
@@ -64,14 +52,11 @@ module _ (p : Program) (steps : ℕ) (v : Schedule) (b : ℕ) where
   untried_first e = sym (head_nil (found_with given_up true p steps none v b) (untried_none p v b true steps none e))
 
 -- ---- where nobody may step: the prefix, if it has failed
-pub ended_first : (p : Program) (steps : ℕ) (v : Schedule) → ended TSO (end_of p v) ≡ true → (r : First) → r.found ≡ fails (end_of p v) → take r.steps r.schedule ≡ v
-    → found_of r ≡ head_of (found_behind given_up true p steps none v)
+pub ended_first : (p : Program) (steps : ℕ) (v : Schedule) → ended TSO (end_of p v) ≡ true → (failed : Bool) → failed ≡ fails (end_of p v) → (s : Schedule) → s ≡ v
+    → cond failed (some s) none ≡ head_of (found_behind given_up true p steps none v)
 unfolding head_of
-ended_first p steps v e r q s = go (fails (end_of p v)) refl
-  where
-    go : (b : Bool) → fails (end_of p v) ≡ b → found_of r ≡ head_of (found_behind given_up true p steps none v)
-    go true f = sym (found_some r (q ∙ f)) ∙ ap some s ∙ sym (ap head_of (behind_end tso given_up true p steps v true e f refl))
-    go false f = sym (found_none r (q ∙ f)) ∙ sym (ap head_of (behind_passed tso given_up true p steps v false e f refl))
+ended_first p steps v e true q s h = ap some h ∙ sym (ap head_of (behind_end tso given_up true p steps v true e (sym q) refl))
+ended_first p steps v e false q s h = sym (ap head_of (behind_passed tso given_up true p steps v false e (sym q) refl))
 
 -- ---- with marks
 module _ (p : Program) (a : Admitted tso p) (n slots : ℕ) (wide : Wide n p) (v : Schedule) (ok : Allowed TSO (start p) v) (steps : ℕ) (counted : length v ≡ steps) (fine : fails (end_of p v) ≡ false) where
@@ -126,20 +111,17 @@ module _ (code lengths class : List ℕ) (n slots : ℕ) (x : Spot) (table₀ : 
       (λ c. behind_branches tso given_up true c.program x.place.steps c.prefix none (e c) (room c))
 
   -- with b, which is tried: found
-  pub turn_found : (table table' : List ℕ) (b : ℕ) → b < 22 → Left table b → (r : First) →
-      ((c : Position code lengths class n x) → Marked c.program n slots table → (found_of r ≡ head_of (found_with given_up true c.program x.place.steps none c.prefix b)) × Marked c.program n slots table') →
-      r.found ≡ true → (c : Position code lengths class n x) → Marked c.program n slots table₀ →
-      (found_of r ≡ head_of (found_behind given_up true c.program x.place.steps none c.prefix)) × Marked c.program n slots table'
-  turn_found table table' b h so r visited f c marks =
-      let q = seeking_found Case 22 True table₀ each whole table table' b h so (take r.steps r.schedule) (λ d ok. let z = visited d ok in (found_some r f ∙ z.0, z.1)) c marks in
-      (sym (found_some r f) ∙ q.0, q.1)
+  pub turn_found : (table table' : List ℕ) (b : ℕ) → b < 22 → Left table b → (s : Schedule) →
+      ((c : Position code lengths class n x) → Marked c.program n slots table → (some s ≡ head_of (found_with given_up true c.program x.place.steps none c.prefix b)) × Marked c.program n slots table') →
+      (c : Position code lengths class n x) → Marked c.program n slots table₀ →
+      (some s ≡ head_of (found_behind given_up true c.program x.place.steps none c.prefix)) × Marked c.program n slots table'
+  turn_found = seeking_found Case 22 True table₀ each whole
 
   -- not found
-  pub turn_none : (table table' behind : List ℕ) (b : ℕ) → b < 22 → Left table b → (r : First) →
-      ((c : Position code lengths class n x) → Marked c.program n slots table → (found_of r ≡ head_of (found_with given_up true c.program x.place.steps none c.prefix b)) × Marked c.program n slots table') →
-      r.found ≡ false → behind ≡ table' → Left behind (b + 1)
-  turn_none table table' behind b h so r visited f =
-      seeking_none Case 22 True table₀ each whole table table' behind b h so (λ d ok. let z = visited d ok in (found_none r f ∙ z.0, z.1))
+  pub turn_none : (table table' behind : List ℕ) (b : ℕ) → b < 22 → Left table b →
+      ((c : Position code lengths class n x) → Marked c.program n slots table → (none ≡ head_of (found_with given_up true c.program x.place.steps none c.prefix b)) × Marked c.program n slots table') →
+      behind ≡ table' → Left behind (b + 1)
+  turn_none table table' behind b h so visited = seeking_none Case 22 True table₀ each whole table table' behind b h so visited
 
   -- with b, which is not tried
   pub turn_passed : (table behind : List ℕ) (b : ℕ) → b < 22 → Left table b → ((c : Position code lengths class n x) → tried c.program c.prefix b ≡ false) → behind ≡ table → Left behind (b + 1)

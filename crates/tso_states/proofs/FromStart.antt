@@ -1,6 +1,6 @@
 -- From the start, with a table that says nothing: the numbers are those of the list, and the first that is found is the list's first failing member.
 use Prim.Native.Nat.{ℕ, ◌%◌, ◌^◌}
-use mathlib.Core.Path.{◌≡◌, refl, sym, ap, ◌∙◌}
+use mathlib.Core.Path.{◌≡◌, sym, ap, ◌∙◌}
 use mathlib.Core.Bool.{Bool, true, cond}
 use mathlib.Core.Option.{none, some, none-ne-some}
 use mathlib.Core.List.{List, []}

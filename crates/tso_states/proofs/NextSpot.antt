@@ -1,7 +1,6 @@
 -- BEHIND A STEP: the ways, as far as eight accesses go; whether it failed; and that one step fewer is left.
 use Prim.Native.Nat.{ℕ, ◌+◌, ◌-◌, ◌*◌, ◌%◌, ◌^◌, ◌<◌, ◌≤◌}
 use mathlib.Core.Path.{◌≡◌, refl, sym, ap, ap₂, subst, ◌∙◌}
-use mathlib.Core.Logic.{◌≢◌}
 use mathlib.Core.Bool.{Bool, true, false, true≢false}
 use mathlib.Core.List.{List, [], ◌∷◌, ◌++◌}
 use native.Mathlib.Omega.{arith}
@@ -18,7 +17,7 @@ use Rattle.spec_sc.specs.Local.{first_place, place_of}
 use Rattle.machine.specs.Held.{idle}
 use Rattle.machine_access.proofs.HeldSettling.{code_at_lem}
 use Rattle.search_place.proofs.RowAccess.{place_first}
-use Rattle.spec_tso.specs.State.{Thread, State, Kind, access, move, TSO, start, step, step_of, enabled, target, place, thread_of, thread_behind, unqueued, kind_of, owner}
+use Rattle.spec_tso.specs.State.{Thread, State, Kind, access, TSO, start, step, step_of, enabled, target, place, thread_of, thread_behind, unqueued, kind_of, owner}
 use Rattle.spec_tso.specs.Graph.{end_of}
 use Rattle.spec_tso.specs.TotalStoreOrder.{tso}
 use Rattle.spec_tso.proofs.Admits.{few_none}

@@ -3,7 +3,5 @@
 pub mod Position
 -- what a table of a program's keys may say
 pub mod Known
--- the first failing schedule as the code answers it
-pub mod FoundOf
 -- what a walk needs of a program
 pub mod Made

@@ -6,11 +6,11 @@ use Rattle.search_rules.specs.Left.{Left}
 use Rattle.states_live.specs.Live.{Live}
 use Rattle.theory_tso_key.specs.Words.{Wide}
 use Rattle.tso_key.specs.Stands.{Stands}
-use Rattle.tso_states.specs.declared.answering.Setup.{Setup}
+use Rattle.tso_states.specs.declared.setup.Setup.{Setup}
 
 pub record Made (program : Compiled) (r : Setup) : Type 0 where
-  pub left : Left program.code program.lengths r.left
-  pub live : Live program.code program.lengths r.masks
+  pub left : Left r.program.code r.program.lengths r.left
+  pub live : Live r.program.code r.program.lengths r.masks
   pub few : r.width ≤ 27
   pub wide : Wide r.width (program_of program)
-  pub stands : Stands program.code program.lengths r.class program.threads program.groups r.spot (program_of program) []
+  pub stands : Stands r.program.code r.program.lengths r.program.class program.threads program.groups r.spot (program_of program) []

@@ -6,55 +6,46 @@ ghost use Rattle.spec_model.specs.Answers.{count_of};
 ghost use Rattle.spec_model.specs.Laws.{Admitted};
 ghost use Rattle.spec_model.specs.Search.{sought};
 ghost use Rattle.spec_tso.specs.TotalStoreOrder.{tso};
-ghost use Rattle.tso_states.specs.FoundOf.{found_of};
+ghost use Rattle.listing_cursor.specs.Steps.{found_of, Short};
 ghost use Rattle.tso_states.specs.Made.{Made};
 
 use crate::counting::behind;
-use crate::plan::Plan;
-use crate::seeking::{First, first_behind};
+use crate::seeking::first_behind;
+use crate::setup::Setup;
 use file_decoder::Compiled;
+use listing_cursor::Steps;
 use machine::some_failed;
 use machine_access::accesses_below;
 use search_place::known_lines;
 use search_rules::left_sets;
 use states_live::{live_masks, most_registers};
-use states_memory::{Tally, charged};
+use states_memory::{Shape, Tally, charged};
 use table::{clear, slots};
-use tso_key::{Spot, first_spot};
+use tso_key::first_spot;
 use tso_place::begun;
 
-// What a walk needs of a program: its classes, what is left to its rows, their live registers, how wide a key is, and where it starts.
-#[derive(Clone, Copy)]
-pub struct Setup {
-    pub class: [usize; 6],
-    pub left: [u8; 192],
-    pub masks: [u8; 96],
-    pub width: usize,
-    pub spot: Spot,
-}
+// From so many steps on no key is made: so few steps are left then that to look is dearer than to walk. Which number that is changes no
+// answer.
+const DEEP: usize = 28;
 
 // Makes ready. Of a key three words are sets, numbers and locations; no more stores are pending than the program has accesses.
 pub fn made(program: Compiled) -> Setup
     requires { Admitted tso (program_of program) }
     ensures { Made program result }
 {
-    let code = program.code;
-    let lengths = program.lengths;
-    let declared = program.class;
-    let starting = program.starting;
-    let class = known_lines(declared, program.groups);
-    let left = left_sets(&code, &lengths);
-    let masks = live_masks(&code, &lengths);
-    let accesses = accesses_below(&code, &lengths, program.threads);
+    let class = known_lines(program.class, program.groups);
+    let known = Compiled { class, ..program };
+    let left = left_sets(&known);
+    let masks = live_masks(&known);
+    let accesses = accesses_below(&known.code, &known.lengths, known.threads);
     let registers = most_registers(&masks);
-    let x = begun(&code, &lengths, program.threads, starting);
-    let spot = first_spot(x);
+    let spot = first_spot(begun(&known));
     Setup {
-        class: class,
-        left: left,
-        masks: masks,
+        program: known,
+        left,
+        masks,
         width: 3 + (accesses + 1) / 2 + (9 + registers) / 2,
-        spot: spot,
+        spot,
     }
 }
 
@@ -65,45 +56,31 @@ pub fn counted(program: Compiled, table: &mut [u64]) -> Tally
     ensures zeros { table.new ≡ replicate (length table.old) 0 }
 {
     let m = made(program);
-    let code = program.code;
-    let lengths = program.lengths;
-    let class = m.class;
-    let left = m.left;
-    let masks = m.masks;
-    let x = m.spot;
-    let place = x.place;
-    let threads = place.threads;
-    let plan = Plan {
+    let shape = Shape {
         width: m.width,
         slots: slots(table.len(), m.width, 2),
-        keyed: 28,
+        deep: DEEP,
     };
     clear(table);
-    let n = behind(&code, &lengths, &class, &left, &masks, plan, &x, table);
+    let n = behind(&m, shape, &m.spot, table);
     clear(table);
-    charged(some_failed(threads), n)
+    charged(some_failed(m.spot.place.threads), n)
 }
 
 // The first listed schedule that fails.
-pub fn first_failing(program: Compiled, table: &mut [u64]) -> First
+pub fn first_failing(program: Compiled, table: &mut [u64]) -> Option<Steps<32>>
     requires { Admitted tso (program_of program) }
-    ensures first { (result.steps ≤ 32) × (found_of result ≡ head_of (sought tso true (program_of program))) }
+    ensures first { Short result × (found_of result ≡ head_of (sought tso true (program_of program))) }
     ensures zeros { table.new ≡ replicate (length table.old) 0 }
 {
     let m = made(program);
-    let code = program.code;
-    let lengths = program.lengths;
-    let class = m.class;
-    let left = m.left;
-    let masks = m.masks;
-    let x = m.spot;
-    let plan = Plan {
+    let shape = Shape {
         width: m.width,
         slots: slots(table.len(), m.width, 0),
-        keyed: 28,
+        deep: DEEP,
     };
     clear(table);
-    let r = first_behind(&code, &lengths, &class, &left, &masks, plan, x, table);
+    let r = first_behind(&m, shape, &m.spot, table);
     clear(table);
     r
 }

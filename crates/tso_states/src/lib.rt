@@ -1,8 +1,8 @@
 // Count and first failing schedule by states, under total store order.
 #![tactic(auto)]
 
-// How a walk uses its table.
-mod plan;
+// What is made ready before a walk.
+mod setup;
 // A step of the search.
 mod stepping;
 // How many are listed, and how many of these fail.
@@ -12,6 +12,7 @@ mod seeking;
 // Both of a decoded program, with a lent table.
 mod answering;
 
-pub use answering::{Setup, counted, first_failing, made};
-pub use seeking::{First, nothing};
+pub use answering::{counted, first_failing, made};
+pub use seeking::steps_if;
+pub use setup::Setup;
 pub use stepping::stepped;

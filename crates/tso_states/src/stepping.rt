@@ -9,46 +9,38 @@ ghost use Rattle.tso_place.specs.Reached.{Reached};
 ghost use Rattle.tso_place.specs.declared.place.Place.{Place};
 ghost use Rattle.tso_key.specs.Stands.{Stands};
 
+use file_decoder::Compiled;
 use file_lines::wide;
-use file_rows::Code;
 use machine_access::ThreadState;
 use search_place::location_at;
 use tso_key::{Spot, way_behind};
 use tso_place::advanced;
 
 // The spot behind the step b, which may be made: an access adds its location to its thread's way.
-pub fn stepped(code: &Code, lengths: &[usize; 6], class: &[usize; 6], x: Spot, b: u8) -> Spot
+pub fn stepped(program: &Compiled, x: &Spot, b: u8) -> Spot
     requires { (threads : ℕ) × (groups : ℕ) × (p : Program) × (v : Schedule)
-        × Stands code.now lengths.now class.now threads groups x p v × (enabled (end_of p v) b ≡ true) }
+        × Stands program.now.code program.now.lengths program.now.class threads groups x.now p v × (enabled (end_of p v) b ≡ true) }
     ensures { (threads groups : ℕ) (p : Program) (v : Schedule)
-        → Stands code.now lengths.now class.now threads groups x p v → enabled (end_of p v) b ≡ true
-        → Stands code.now lengths.now class.now threads groups result p (v ++ (b ∷ [])) }
+        → Stands program.now.code program.now.lengths program.now.class threads groups x.now p v → enabled (end_of p v) b ≡ true
+        → Stands program.now.code program.now.lengths program.now.class threads groups result p (v ++ (b ∷ [])) }
 {
-    let place = x.place;
     let mut ways = x.ways;
     if b < 6 {
         let u = wide(b);
-        let k = place.threads[u];
-        let l = location_at(code, u * 16 + k.at);
-        let way = ways[u];
-        ways[u] = way_behind(way, l);
+        let l = location_at(&program.code, u * 16 + x.place.threads[u].at);
+        ways[u] = way_behind(ways[u], l);
     }
-    let next = advanced(code, lengths, class, place, b);
     Spot {
-        place: next,
-        ways: ways,
+        place: advanced(program, x.place, b),
+        ways,
     }
 }
 
 // Whether an assertion failed in the step b, behind which the threads stand so.
-pub(crate) fn is_broken(threads: [ThreadState; 6], b: u8) -> bool
+pub(crate) fn is_broken(threads: &[ThreadState; 6], b: u8) -> bool
     ensures { (code lengths class : List ℕ) (n groups : ℕ) (y : Place) (p : Program) (v : Schedule)
-        → Reached code lengths class n groups y p (v ++ (b ∷ [])) → y.threads ≡ threads → enabled (end_of p v) b ≡ true
+        → Reached code lengths class n groups y p (v ++ (b ∷ [])) → y.threads ≡ threads.now → enabled (end_of p v) b ≡ true
         → result ≡ breaks (end_of p v) b }
 {
-    if b < 6 {
-        let k = threads[wide(b)];
-        return k.failed;
-    }
-    false
+    b < 6 && threads[wide(b)].failed
 }

@@ -16,12 +16,12 @@ use machine::{Machine, fails};
 use tso_place::Place;
 
 // Adds its row, if it is looked for and there is room; answers how many rows there are.
-pub(crate) fn at_end(x: Place, a: Aim, out: &mut [u8]) -> usize
-    requires { (x.steps ≤ 32) × (a.rows ≤ a.room) × (a.room * 50 ≤ length out.old) }
+pub(crate) fn at_end(x: &Place, a: Aim, out: &mut [u8]) -> usize
+    requires { (x.now.steps ≤ 32) × (a.rows ≤ a.room) × (a.room * 50 ≤ length out.old) }
     ensures within { result ≤ a.room }
     ensures added { (code lengths class : List ℕ) (threads groups : ℕ) (p : Program) (v : Schedule)
-        → Reached code lengths class threads groups x p v → ended TSO (end_of p v) ≡ true
-        → Adds p a.room (found_behind given_up a.failures p x.steps none v) out.old a.rows out.new result }
+        → Reached code lengths class threads groups x.now p v → ended TSO (end_of p v) ≡ true
+        → Adds p a.room (found_behind given_up a.failures p x.now.steps none v) out.old a.rows out.new result }
 {
     let rows = a.rows;
     if a.room <= rows {
@@ -31,15 +31,13 @@ pub(crate) fn at_end(x: Place, a: Aim, out: &mut [u8]) -> usize
     let memory = x.memory;
     let last = x.last;
     let f = fails(Machine {
-        threads: threads,
-        memory: memory,
-        last: last,
+        threads,
+        memory,
+        last,
     });
     if !is_meant(a.failures, f) {
         return rows;
     }
-    let schedule = x.schedule;
-    let steps = x.steps;
-    put_row(&mut out[rows * ROW..], WIDTH, &schedule[..steps], f);
+    put_row(&mut out[rows * ROW..], WIDTH, &x.schedule[..x.steps], f);
     rows + 1
 }

@@ -13,7 +13,7 @@ ghost use Rattle.tso_rules.specs.Tried.{tried};
 ghost use Rattle.tso_walk.specs.Rows.{Adds};
 
 use crate::ending::at_end;
-use file_rows::Code;
+use file_decoder::Compiled;
 use listing_cursor::{Aim, first_byte, stays_tight};
 use tso_order::Sets;
 use tso_place::{Place, advanced};
@@ -24,68 +24,59 @@ pub fn is_over(s: Sets) -> bool
     ensures { (code lengths class : List ℕ) (threads groups : ℕ) (x : Place) (p : Program) (v : Schedule)
         → Reached code lengths class threads groups x p v → x.sets ≡ s → result ≡ ended TSO (end_of p v) }
 {
-    if s.live == 0 {
-        return s.moving == 0;
-    }
-    false
+    s.live == 0 && s.moving == 0
 }
 
 // Adds what is found with b, which is tried, as the next step, unless that leaves some asleep for good.
 #[cycle(visit_walk)]
 fn visit(
-    code: &Code,
-    lengths: &[usize; 6],
-    class: &[usize; 6],
+    program: &Compiled,
     left: &[u8; 192],
-    x: Place,
+    x: &Place,
     bound: &[u8],
     a: Aim,
     out: &mut [u8],
     b: u8,
 ) -> usize
     requires { ((threads : ℕ) × (groups : ℕ) × (p : Program) × (v : Schedule)
-        × Reached code.now lengths.now class.now threads groups x p v)
-        × Left code.now lengths.now left.now × (a.rows ≤ a.room) × (a.room * 50 ≤ length out.old) × (x.steps < 32)
-        × ((threads groups : ℕ) (p : Program) (v : Schedule) → Reached code.now lengths.now class.now threads groups x p v
+        × Reached program.now.code program.now.lengths program.now.class threads groups x.now p v)
+        × Left program.now.code program.now.lengths left.now × (a.rows ≤ a.room) × (a.room * 50 ≤ length out.old) × (x.now.steps < 32)
+        × ((threads groups : ℕ) (p : Program) (v : Schedule) → Reached program.now.code program.now.lengths program.now.class threads groups x.now p v
         → tried p v b ≡ true) }
     ensures within { result ≤ a.room }
     ensures added { (threads groups : ℕ) (p : Program) (v : Schedule)
-        → Reached code.now lengths.now class.now threads groups x p v
-        → Adds p a.room (found_with given_up a.failures p x.steps (bound_at a.tight bound.now x.steps) v b)
+        → Reached program.now.code program.now.lengths program.now.class threads groups x.now p v
+        → Adds p a.room (found_with given_up a.failures p x.now.steps (bound_at a.tight bound.now x.now.steps) v b)
         out.old a.rows out.new result }
 {
-    let next = advanced(code, lengths, class, x, b);
-    if some_asleep(code, lengths, left, next) {
+    let next = advanced(program, *x, b);
+    if some_asleep(program, left, &next) {
         return a.rows;
     }
     let c = Aim {
-        failures: a.failures,
         tight: stays_tight(bound, a.tight, x.steps, b),
-        room: a.room,
-        rows: a.rows,
+        ..a
     };
-    walk(code, lengths, class, left, next, bound, c, out)
+    walk(program, left, &next, bound, c, out)
 }
 
 // Adds all that is found behind the steps taken.
 #[cycle(visit_walk)]
 pub(crate) fn walk(
-    code: &Code,
-    lengths: &[usize; 6],
-    class: &[usize; 6],
+    program: &Compiled,
     left: &[u8; 192],
-    x: Place,
+    x: &Place,
     bound: &[u8],
     a: Aim,
     out: &mut [u8],
 ) -> usize
     requires { ((threads : ℕ) × (groups : ℕ) × (p : Program) × (v : Schedule)
-        × Reached code.now lengths.now class.now threads groups x p v)
-        × Left code.now lengths.now left.now × (a.rows ≤ a.room) × (a.room * 50 ≤ length out.old) }
+        × Reached program.now.code program.now.lengths program.now.class threads groups x.now p v)
+        × Left program.now.code program.now.lengths left.now × (a.rows ≤ a.room) × (a.room * 50 ≤ length out.old) }
     ensures within { result ≤ a.room }
     ensures added { (threads groups : ℕ) (p : Program) (v : Schedule)
-        → Reached code.now lengths.now class.now threads groups x p v
-        → Adds p a.room (found_behind given_up a.failures p x.steps (bound_at a.tight bound.now x.steps) v)
+        → Reached program.now.code program.now.lengths program.now.class threads groups x.now p v
+        → Adds p a.room (found_behind given_up a.failures p x.now.steps (bound_at a.tight bound.now x.now.steps) v)
         out.old a.rows out.new result }
 {
     let s = x.sets;
@@ -99,21 +90,14 @@ pub(crate) fn walk(
         return a.rows;
     }
     let mut n = a.rows;
-    let mut b = first_byte(bound, a.tight, x.steps);
-    while b < 22 {
+    for b in first_byte(bound, a.tight, x.steps)..22 {
         if a.room <= n {
             return n;
         }
-        if is_tried(class, &x.words, s, b) {
-            let c = Aim {
-                failures: a.failures,
-                tight: a.tight,
-                room: a.room,
-                rows: n,
-            };
-            n = visit(code, lengths, class, left, x, bound, c, out, b);
+        if is_tried(&program.class, &x.words, s, b) {
+            let c = Aim { rows: n, ..a };
+            n = visit(program, left, x, bound, c, out, b);
         }
-        b += 1;
     }
     n
 }

@@ -4,10 +4,8 @@ use Rattle.spec_calls.specs.Word.{word_of}
 use Rattle.c_graph.proofs.Checked.{checked_accepted, checked_refused}
 use Rattle.c_graph.proofs.check.tarczolin_check.Goals as goal
 
-pub returns-in-Accepted : goal.returns-in-Accepted
-returns-in-Accepted c =
-    c.answered.ensures ∙ ap word_of (sym (checked_accepted c.decode-a.result _ c.decode-a.ensures c.in-Accepted.is))
+pub returns-in-Ok : goal.returns-in-Ok
+returns-in-Ok c = c.answered.ensures ∙ ap word_of (sym (checked_accepted c.decode.result _ c.decode.ensures _ c.in-Ok.is))
 
-pub returns-in-Refused : goal.returns-in-Refused
-returns-in-Refused c =
-    c.refused.ensures ∙ ap word_of (sym (checked_refused c.decode-a.result _ _ _ c.decode-a.ensures c.in-Refused.is))
+pub returns-in-Err : goal.returns-in-Err
+returns-in-Err c = c.refused.ensures ∙ ap word_of (sym (checked_refused c.decode.result _ c.decode.ensures _ c.in-Err.is))

@@ -1,20 +1,12 @@
 -- `tarczolin_judge` says what the judge answers.
-use Rattle.std.proofs.Common.{◌∙◌, ap, sym}
+use Rattle.std.proofs.Common.{ℕ, Option, Result, ◌∙◌, ap}
+use Rattle.spec_file.specs.declared.refusal.Refusal.{Refusal}
 use Rattle.spec_calls.specs.Word.{word_of}
-use Rattle.c_graph.proofs.Judgements.{judged_yes, judged_no, judged_refused}
+use Rattle.c_word.specs.Found.{reply_of}
+use Rattle.c_graph.proofs.Judgements.{word_judged}
 use Rattle.c_graph.proofs.judgement.tarczolin_judge.Goals as goal
 
-pub returns-in-Yes : goal.returns-in-Yes
-returns-in-Yes c =
-    let answer = c.judge-a.ensures in
-    (answer.0, answer.1, c.answered.ensures ∙ ap word_of (sym (judged_yes answer.0 _ (sym answer.2 ∙ c.in-Yes.is))), answer.3)
-
-pub returns-in-No : goal.returns-in-No
-returns-in-No c =
-    let answer = c.judge-a.ensures in
-    (answer.0, answer.1, c.nothing.ensures ∙ ap word_of (sym (judged_no answer.0 (sym answer.2 ∙ c.in-No.is))), answer.3)
-
-pub returns-in-Refused : goal.returns-in-Refused
-returns-in-Refused c =
-    let answer = c.judge-a.ensures in
-    (answer.0, answer.1, c.refused.ensures ∙ ap word_of (sym (judged_refused answer.0 _ _ (sym answer.2 ∙ c.in-Refused.is))), answer.3)
+pub returns : goal.returns
+returns c =
+    let a = c.judge.ensures in
+    (a.0, a.1, c.judged_word.ensures ∙ ap (λ (x : Result (Option ℕ) Refusal). word_of (reply_of x)) a.2 ∙ ap word_of (word_judged a.0), a.3)

@@ -4,4 +4,4 @@ use Rattle.spec_calls.specs.Users.{user_word}
 use Rattle.c_service.proofs.users.tarczolin_close.Goals as goal
 
 pub returns : goal.returns
-returns c = let e = c.close-r.ensures in (c.user_word.ensures ∙ ap user_word e.0, e.1)
+returns c = let e = c.close.ensures in (c.user_word.ensures ∙ ap user_word e.0, e.1)

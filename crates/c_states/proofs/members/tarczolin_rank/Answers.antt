@@ -4,16 +4,14 @@ use Rattle.spec_calls.specs.Word.{word_of}
 use Rattle.c_states.proofs.Ranks.{said_ranked, said_refused}
 use Rattle.c_states.proofs.members.tarczolin_rank.Goals as goal
 
-pub returns-in-Ranked : goal.returns-in-Ranked
-returns-in-Ranked c =
-    let args = c.args in
-    let said = c.rank-a.ensures in
-    let e = said_ranked _ _ args.rank.now (sym said.answer ∙ c.in-Ranked.is) in
-    record { answer = c.answered.ensures ∙ ap word_of (sym e.0); rank = sym e.1; scratch = said.later }
+pub returns-in-Ok : goal.returns-in-Ok
+returns-in-Ok c =
+    let said = c.rank.ensures in
+    let e = said_ranked _ c.in-Ok.n c.args.rank.now (sym c.in-Ok.is ∙ said.answer) in
+    record { answer = c.answered.ensures ∙ ap word_of e.0; rank = e.1; scratch = said.later }
 
-pub returns-in-Refused : goal.returns-in-Refused
-returns-in-Refused c =
-    let args = c.args in
-    let said = c.rank-a.ensures in
-    let e = said_refused _ _ _ args.rank.now (sym said.answer ∙ c.in-Refused.is) in
-    record { answer = c.refused.ensures ∙ ap word_of (sym e.0); rank = sym e.1; scratch = said.later }
+pub returns-in-Err : goal.returns-in-Err
+returns-in-Err c =
+    let said = c.rank.ensures in
+    let e = said_refused _ c.in-Err.r c.args.rank.now (sym c.in-Err.is ∙ said.answer) in
+    record { answer = c.refused.ensures ∙ ap word_of e.0; rank = e.1; scratch = said.later }

@@ -1,15 +1,10 @@
 -- `tarczolin_tso_class` says what the size of the class is, or the refusal.
-use Rattle.std.proofs.Common.{◌∙◌, ap, sym}
+use Rattle.std.proofs.Common.{ℕ, Result, ◌∙◌, ap}
+use Rattle.spec_file.specs.declared.refusal.Refusal.{Refusal}
 use Rattle.spec_calls.specs.Word.{word_of}
-use Rattle.c_extra.proofs.ClassAnswered.{class_sized, class_refused}
+use Rattle.spec_calls.specs.ByRows.{rows_reply}
+use Rattle.c_extra.proofs.ClassAnswered.{word_class}
 use Rattle.c_tso.proofs.store_class.tarczolin_tso_class.Goals as goal
 
-pub returns-in-Sized : goal.returns-in-Sized
-returns-in-Sized c =
-    let answer = c.class_size-a in
-    c.answered.ensures ∙ ap word_of (sym (class_sized _ _ (sym answer.ensures ∙ c.in-Sized.is)))
-
-pub returns-in-Refused : goal.returns-in-Refused
-returns-in-Refused c =
-    let answer = c.class_size-a in
-    c.refused.ensures ∙ ap word_of (sym (class_refused _ _ _ (sym answer.ensures ∙ c.in-Refused.is)))
+pub returns : goal.returns
+returns c = c.class_word.ensures ∙ ap (λ (x : Result ℕ Refusal). word_of (rows_reply x)) c.class_size.ensures ∙ ap word_of (word_class _)

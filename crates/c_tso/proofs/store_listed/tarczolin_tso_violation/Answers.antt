@@ -1,12 +1,6 @@
 -- `tarczolin_tso_violation` says what the listing answers.
-use Rattle.std.proofs.Common.{◌∙◌, ap}
-use Rattle.listing.specs.declared.calling.ListAnswer.{ListAnswer}
-use Rattle.spec_calls.specs.Word.{word_of}
-use Rattle.c_listing.specs.Listed.{reply_of}
-use Rattle.c_listing.proofs.ReplyOf.{word_violation}
+use Rattle.c_listing.proofs.ReplyOf.{says_violation}
 use Rattle.c_tso.proofs.store_listed.tarczolin_tso_violation.Goals as goal
 
 pub returns : goal.returns
-returns c =
-    let a = c.violation in
-    record { answer = c.word_of.ensures ∙ ap (λ (x : ListAnswer). word_of (reply_of x)) a.ensures.answer ∙ ap word_of (word_violation _); output = a.ensures.output }
+returns c = record { answer = says_violation _ _ c.found_word.ensures _ c.violation.ensures.answer; output = c.violation.ensures.output }

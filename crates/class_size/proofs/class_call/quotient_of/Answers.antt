@@ -12,7 +12,7 @@ nonzero_div-result c =
     let may = c.permitted_moves-may in
     let left = c.leaving_moves-left in
     let gs = groups_of args.class args.groups in
-    let ns = notes_at args.log args.steps in
+    let ns = notes_at args.log.now args.steps in
     omega (arith, c.count-2.ensures.1, leave_counted gs ns may.result left.result may.ensures left.ensures, some_leave gs ns)
 
 pub returns : goal.returns
@@ -20,5 +20,5 @@ returns c =
     let args = c.args in
     let may = c.permitted_moves-may in
     let left = c.leaving_moves-left in
-    counts_divided (groups_of args.class args.groups) (notes_at args.log args.steps) may.result left.result may.ensures left.ensures
+    counts_divided (groups_of args.class args.groups) (notes_at args.log.now args.steps) may.result left.result may.ensures left.ensures
     c.count.result c.count-2.result c.count.ensures.1 c.count-2.ensures.1

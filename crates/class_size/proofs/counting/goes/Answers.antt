@@ -1,32 +1,26 @@
-use Rattle.std.proofs.Common.{rules, ℕ, ◌+◌, ◌*◌, ◌≡◌, sym, ap, ◌∙◌, true, false, arith, length, get_or}
-use Rattle.machine.proofs.HeldAsking.{one_more}
+-- `goes` asks of each of the six whether it goes where it may.
+use Rattle.std.proofs.Common.{ℕ, ◌+◌, ◌*◌, ◌<◌, ◌≡◌, Bool, true, false, List, length, get_or, MatchBool, refl, subst, arith, rules, tests}
+use Rattle.std.specs.List.{AllWithin, HoldsAt, range_with_len}
+use Rattle.std.proofs.lemmas.Iterator.{cases_from_all, YieldsList-from_range}
+use Rattle.std.proofs.lemmas.List.FromFn.{get_or-range_with_len}
+use Rattle.class_size.specs.Moves.{goes_by}
 use Rattle.class_size.proofs.Goes.{goes_not, goes_all}
 use Rattle.class_size.proofs.counting.goes.Goals as goal
 
-pub loop-t-init : goal.loop-t-init
-loop-t-init c = (search rules, λ u b. absurd (omega arith))
+abbrev place : List Bool → List ℕ → ℕ → Bool
+place may row t = get_or may (t * 6 + get_or row t 0) false
 
-pub bounds-may-t : goal.bounds-may-t
-bounds-may-t c =
-    let loop = c.loop-t in
-    omega (arith, c.requires loop.t c.loop-t-test.true, c.wide-u.ensures.same)
+at : (t : ℕ) → t < 6 → get_or (range_with_len 0 6) t 0 ≡ t
+at t b = omega (arith, get_or-range_with_len 0 6 t 0 b)
 
-pub returns-then-not-may-t : goal.returns-then-not-may-t
-returns-then-not-may-t c =
-    let loop = c.loop-t in
-    let args = c.args in
-    let six : length args.row ≡ 6 = search rules in
-    goes_not args.may args.row six loop.t c.loop-t-test.true (ap (λ (u : ℕ). get_or args.may (loop.t * 6 + u) false) (sym c.wide-u.ensures.same) ∙ c.if-not-may-t.true)
-
-pub loop-t-preserved : goal.loop-t-preserved
-loop-t-preserved c =
-    let loop = c.loop-t in
-    let args = c.args in
-    (search rules, one_more (λ u. get_or args.may (u * 6 + get_or args.row u 0) false ≡ true) loop.t loop.invariant.1 (ap (λ (u : ℕ). get_or args.may (loop.t * 6 + u) false) (sym c.wide-u.ensures.same) ∙ c.if-not-may-t.false))
+goes_if : (may : List Bool) (row : List ℕ) → length row ≡ 6 → (r : Bool)
+    → MatchBool r (AllWithin (λ t. place may row t ≡ true) (range_with_len 0 6) 0 6) ((k : ℕ) × (k < 6) × HoldsAt (λ t. place may row t ≡ false) (range_with_len 0 6) k)
+    → r ≡ goes_by may row
+goes_if may row six true h = goes_all may row six (λ t b. subst (λ (u : ℕ). place may row u ≡ true) (at t b) (h t 0 (omega arith) b))
+goes_if may row six false h = goes_not may row six h.0 h.1 (subst (λ (u : ℕ). place may row u ≡ false) (at h.0 h.1) (h.2 0))
 
 pub returns : goal.returns
 returns c =
-    let loop = c.loop-t in
     let args = c.args in
-    let six : length args.row ≡ 6 = search rules in
-    goes_all args.may args.row six (λ u b. loop.invariant.1 u (omega (arith, b, c.loop-t-test.false)))
+    goes_if args.may args.row (search rules) _ (cases_from_all _ _ _ (λ t. place args.may args.row t ≡ true) (λ t. place args.may args.row t ≡ false) c.all.ensures.ran (YieldsList-from_range 0 6 6 refl (omega arith))
+    (λ x q k. search (rules, tests)) (λ x q k. search (rules, tests)))

@@ -1,23 +1,9 @@
-use Rattle.std.proofs.Common.{rules, ℕ, ◌/◌, ◌%◌, ap, ◌∙◌, false, ◌&&◌, arith, get_or}
+use Rattle.std.proofs.Common.{rules, arith, ◌≡◌, ◌&&◌, ◌/◌, ◌%◌, false, get_or}
 use Rattle.graph_writer.specs.NoteText.{notes_at}
 use Rattle.class_size.specs.Moves.{unmoved_in}
-use Rattle.class_size.proofs.Goes.{filled_next}
+use Rattle.class_size.proofs.FromFn.{made_at}
 use Rattle.class_size.proofs.moving.leaving_moves.Goals as goal
 
-pub loop-k-init : goal.loop-k-init
-loop-k-init c = (search rules, search rules, λ j b. absurd (omega arith))
-
-pub loop-k-preserved : goal.loop-k-preserved
-loop-k-preserved c =
-    let loop = c.loop-k in
-    let args = c.args in
-    let ns = notes_at args.log.now args.steps in (
-      search rules,
-      search rules,
-      rw c.wide-i.ensures.same
-          (filled_next (λ j. get_or args.may j false && unmoved_in ns (j / 6) (j % 6)) loop.left loop.k c.unmoved.result (omega (arith, loop.invariant.1, c.loop-k-test.true)) loop.invariant.2
-          (c.unmoved.ensures ∙ ap (λ (i : ℕ). get_or args.may i false && unmoved_in ns (loop.k / 6) (loop.k % 6)) c.wide-i.ensures.same)),
-    )
-
 pub returns : goal.returns
-returns c = let loop = c.loop-k in λ j b. loop.invariant.2 j (omega (arith, b, c.loop-k-test.false))
+returns c = λ k h. made_at _ (λ j y. y ≡ (get_or c.args.may j false && unmoved_in (notes_at c.args.log.now c.args.steps) (j / 6) (j % 6))) _ c.from_fn.result 36
+    (λ j y q b called. search rules) 0 36 (omega arith) c.from_fn.ensures.items.each k (omega arith) h false

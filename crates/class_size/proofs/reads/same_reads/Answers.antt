@@ -1,49 +1,54 @@
-use Rattle.std.proofs.Common.{sym, ap₂, ◌∙◌, List, arith}
+use Rattle.std.proofs.Common.{ℕ, ◌<◌, ◌≤◌, ◌≡◌, sym, ap, ap₂, ◌∙◌, not, List, Option, Some, None, IfSome}
 use Rattle.spec_sc.specs.Same.{same_read}
 use Rattle.spec_file.specs.Lists.{same_list}
 use Rattle.graph_writer.specs.Notes.{Note}
 use Rattle.graph_writer.specs.NoteText.{reads_in}
 use Rattle.class_size.proofs.NotesFrom.{from_first}
-use Rattle.class_size.proofs.SameReads.{reads_longer, reads_differ, reads_agree, reads_done}
+use Rattle.class_size.proofs.SameReads.{SameOn, reads_differ, reads_agree, reads_end, reads_longer, some_none}
+use Rattle.class_size.proofs.reads.same_reads.Goals.{in_default, in_default-2}
 use Rattle.class_size.proofs.reads.same_reads.Goals as goal
+
+-- a place behind another is within the notes
+within : (o : Option ℕ) (from steps : ℕ) → IfSome o (λ k. (from ≤ k) × (k < steps)) → IfSome o (λ k. k < steps)
+within None from steps h = h
+within (Some k) from steps h = h.1
 
 pub loop-a-init : goal.loop-a-init
 loop-a-init c =
     let args = c.args in
     let all = from_first args.log.now args.steps in (
-      _,
-      _,
-      (c.next_read-a.ensures.next, c.next_read-a.ensures.none),
-      (c.next_read-b.ensures.next, c.next_read-b.ensures.none),
-      ap₂ (λ (ns ms : List Note). same_list same_read (reads_in args.t ns) (reads_in args.u ms)) all all,
+      within _ _ _ c.next_read-a.ensures.place,
+      within _ _ _ c.next_read-b.ensures.place,
+      ap₂ (same_list same_read) (sym c.next_read-a.ensures.reads) (sym c.next_read-b.ensures.reads) ∙ ap₂ (λ (ns ms : List Note). same_list same_read (reads_in args.t ns) (reads_in args.u ms)) all all,
     )
-
-pub returns-then-steps-b : goal.returns-then-steps-b
-returns-then-steps-b c =
-    let loop = c.loop-a in
-    let args = c.args in
-    reads_longer args.log.now args.steps args.t args.u loop.invariant.0 loop.invariant.1 loop.a loop.b loop.invariant.2 loop.invariant.3 c.loop-a-test.true c.if-steps-b.true ∙ loop.invariant.4
 
 pub returns-then-not-same_read : goal.returns-then-not-same_read
 returns-then-not-same_read c =
-    let loop = c.loop-a in
     let args = c.args in
-    reads_differ args.log.now args.steps args.t args.u loop.invariant.0 loop.invariant.1 loop.a loop.b loop.invariant.2 loop.invariant.3 c.loop-a-test.true c.if-steps-b.false
-    (sym c.same_read.ensures ∙ c.if-not-same_read.true) ∙ loop.invariant.4
-
-pub loop-a-smaller : goal.loop-a-smaller
-loop-a-smaller c = omega (arith, c.next_read-a-in-loop-a.ensures.behind, c.loop-a-test.true)
+    let s = c.in-Some-Some in
+    reads_differ args.log.now args.steps args.t args.u s.x s.y (sym c.same_read.ensures ∙ c.if-not-same_read.true)
+    ∙ ap₂ (SameOn args.log.now args.steps args.t args.u) (sym s.is-0) (sym s.is-1) ∙ c.loop-a.invariant.2
 
 pub loop-a-preserved : goal.loop-a-preserved
 loop-a-preserved c =
-    let loop = c.loop-a in
     let args = c.args in
-    let agree = reads_agree args.log.now args.steps args.t args.u loop.invariant.0 loop.invariant.1 loop.a loop.b loop.invariant.2 loop.invariant.3 c.loop-a-test.true c.if-steps-b.false
-    (sym c.same_read.ensures ∙ c.if-not-same_read.false) in
-    (_, _, (c.next_read-a-in-loop-a.ensures.next, c.next_read-a-in-loop-a.ensures.none), (c.next_read-b-in-loop-a.ensures.next, c.next_read-b-in-loop-a.ensures.none), agree ∙ loop.invariant.4)
+    let s = c.in-Some-Some in
+    let a = c.next_read-a-in-Some-Some in
+    let b = c.next_read-b-in-Some-Some in (
+      within _ _ _ a.ensures.place,
+      within _ _ _ b.ensures.place,
+      ap₂ (same_list same_read) (sym a.ensures.reads) (sym b.ensures.reads)
+          ∙ reads_agree args.log.now args.steps args.t args.u s.x s.y (sym c.same_read.ensures ∙ c.if-not-same_read.false)
+          ∙ ap₂ (SameOn args.log.now args.steps args.t args.u) (sym s.is-0) (sym s.is-1) ∙ c.loop-a.invariant.2,
+    )
 
-pub returns : goal.returns
-returns c =
-    let loop = c.loop-a in
+pub returns-then-is_none : goal.returns-then-is_none
+returns-then-is_none c =
     let args = c.args in
-    reads_done args.log.now args.steps args.t args.u loop.invariant.0 loop.invariant.1 loop.a loop.b loop.invariant.2 loop.invariant.3 c.loop-a-test.false ∙ loop.invariant.4
+    reads_end args.log.now args.steps args.t args.u c.loop-a.a c.loop-a.b _ (c.is_none.ensures ∙ ap not c.if-is_none.true) c.is_none-then-is_none.ensures ∙ c.loop-a.invariant.2
+
+pub returns-else-is_none : goal.returns-else-is_none
+returns-else-is_none c =
+    let args = c.args in
+    let ends : (x y : ℕ) → c.loop-a.a ≡ Some x → c.loop-a.b ≡ Some y → ⊥ = elim c.match-a.branch [ in_default w ↦ λ x y e f. some_none _ y w.in_default.is-1 f | in_default-2 w ↦ λ x y e f. some_none _ x w.in_default.is-0 e ] in
+    c.if-is_none.false ∙ reads_longer args.log.now args.steps args.t args.u c.loop-a.a c.loop-a.b (c.is_none.ensures ∙ ap not c.if-is_none.false) ends ∙ c.loop-a.invariant.2

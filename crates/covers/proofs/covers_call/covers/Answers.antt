@@ -2,4 +2,4 @@
 use Rattle.covers.proofs.covers_call.covers.Goals as goal
 
 pub returns : goal.returns
-returns c = let r = c.covers_with-answer.ensures in (r.0, r.1, r.2, r.3)
+returns c = let r = c.covers_with.ensures in (r.0, r.1, r.2, r.3)

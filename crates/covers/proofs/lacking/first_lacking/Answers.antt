@@ -1,70 +1,11 @@
-use Rattle.std.proofs.Common.{◌≡◌, refl, sym, ◌∙◌, false, length}
+-- `first_lacking` looks for the first that the first program lacks.
+use Rattle.std.proofs.Common.{rules}
 use Rattle.file_decoder.specs.Compiled.{program_of}
-use Rattle.spec_model.specs.Search.{sought}
 use Rattle.spec_across.proofs.Attained.{lacks_under}
 use Rattle.listing_model.specs.ModelOf.{model_of}
-use Rattle.listing_model.proofs.ModelLaws.{model_laws}
-use Rattle.listing_pages.proofs.FirstByPages.{to_come_start, to_come_end, page_room, page_rows, page_onward}
-use Rattle.outcome_lists.proofs.Found.{room_800}
-use Rattle.outcome_lists.proofs.Walked.{page_found, page_next}
 use Rattle.covers.proofs.lacking.first_lacking.Goals as goal
 
-pub loop-model-init : goal.loop-model-init
-loop-model-init c =
+pub returns-clause-first : goal.returns-clause-first
+returns-clause-first c =
     let a = c.args in
-    let N = model_of a.other in
-    let q = program_of a.second in
-    (refl, to_come_start N q (lacks_under (model_of a.model) (program_of a.first) N q) c.beginning-cursor.result (c.beginning-cursor.ensures (sought N false q)))
-
-pub slice_bounds-next_page-end : goal.slice_bounds-next_page-end
-slice_bounds-next_page-end c = sym c.loop-model.invariant.0
-
-pub next_page-page-requires : goal.next_page-page-requires
-next_page-page-requires c = c.requires.1
-
-pub slice_bounds-lacking_among-end : goal.slice_bounds-lacking_among-end
-slice_bounds-lacking_among-end c =
-    let long : length c.next_page-page.new.out ≡ 800 = let loop = c.loop-model in
-    let a = c.args in
-    page_room (model_of a.other) (program_of a.second) loop.cursor loop.rows _ c.next_page-page.result c.next_page-page.ensures ∙ loop.invariant.0 in
-    sym (long)
-
-pub lacking_among-r-requires : goal.lacking_among-r-requires
-lacking_among-r-requires c =
-    let loop = c.loop-model in
-    let a = c.args in
-    let pre = c.requires in
-    (pre.0, pre.1, (_, page_rows (model_of a.other) (program_of a.second) loop.cursor loop.rows _ c.next_page-page.result c.next_page-page.ensures (model_laws a.other) pre.1))
-
-pub returns-then-r : goal.returns-then-r
-returns-then-r c =
-    let loop = c.loop-model in
-    let a = c.args in
-    let q = program_of a.second in
-    let r = c.lacking_among-r in
-    (r.ensures.few, page_found a.other q (lacks_under (model_of a.model) (program_of a.first) (model_of a.other) q) c.requires.1 loop.cursor loop.rows _ c.next_page-page.result c.next_page-page.ensures loop.invariant.1 r.result r.ensures.first c.if-r.true)
-
-pub loop-model-smaller : goal.loop-model-smaller
-loop-model-smaller c =
-    let loop = c.loop-model in
-    let a = c.args in
-    page_onward (model_of a.other) (program_of a.second) loop.cursor loop.rows _ c.next_page-page.result c.next_page-page.ensures (room_800 a.other loop.rows loop.invariant.0)
-    (sym c.is_end.ensures ∙ c.loop-model-test.true)
-
-pub loop-model-preserved : goal.loop-model-preserved
-loop-model-preserved c =
-    let long : length c.next_page-page.new.out ≡ 800 = let loop = c.loop-model in
-    let a = c.args in
-    page_room (model_of a.other) (program_of a.second) loop.cursor loop.rows _ c.next_page-page.result c.next_page-page.ensures ∙ loop.invariant.0 in
-    let loop = c.loop-model in
-    let a = c.args in
-    let q = program_of a.second in
-    let r = c.lacking_among-r in
-    (long, page_next a.other q (lacks_under (model_of a.model) (program_of a.first) (model_of a.other) q) c.requires.1 loop.cursor loop.rows _ c.next_page-page.result c.next_page-page.ensures loop.invariant.1 r.result r.ensures.first c.if-r.false)
-
-pub returns : goal.returns
-returns c =
-    let loop = c.loop-model in
-    let a = c.args in
-    let q = program_of a.second in
-    (c.none_found.ensures.0, c.none_found.ensures.1 ∙ sym (to_come_end (model_of a.other) q (lacks_under (model_of a.model) (program_of a.first) (model_of a.other) q) loop.cursor loop.invariant.1 (sym c.is_end.ensures ∙ c.loop-model-test.false)))
+    c.first_passing.ensures.first (lacks_under (model_of a.model) (program_of a.first) (model_of a.other) (program_of a.second)) (λ s b full r. search rules)

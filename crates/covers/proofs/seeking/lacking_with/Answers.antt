@@ -1,25 +1,23 @@
 -- `lacking_with` asks for the first schedule of the second program beyond all outcomes of the first, or has the lists walked.
 use Rattle.std.proofs.Common.{ℕ, ap, ◌∙◌, arith, replicate}
-use borrow.Author.Tests.{not-false}
 use Rattle.file_decoder.specs.Compiled.{program_of}
+use Rattle.listing_cursor.specs.Steps.{found_of}
 use Rattle.listing_model.specs.ModelOf.{model_of}
 use Rattle.covers.proofs.Lacked.{new_lacks}
 use Rattle.covers.proofs.seeking.lacking_with.Goals as goal
+use Rattle.covers.proofs.seeking.lacking_with.Goals.{in-Some, in-None}
 
-pub all_rows-g-requires : goal.all_rows-g-requires
-all_rows-g-requires c = (c.requires.0, omega arith)
+pub first_beyond-found-requires : goal.first_beyond-found-requires
+first_beyond-found-requires c = (c.requires.1, c.in-Some.ensures.room, omega (arith, c.all_rows.ensures.words))
 
-pub first_lacking-requires : goal.first_lacking-requires
-first_lacking-requires c = c.requires
+pub returns-clause-words : goal.returns-clause-words
+returns-clause-words c = c.clear.ensures.zeros ∙ ap (λ (n : ℕ). replicate n 0) (c.match-all_rows.auto.scratch ∙ c.all_rows.ensures.words)
 
-pub returns-then-not-g : goal.returns-then-not-g
-returns-then-not-g c = record { words = c.clear.ensures.zeros ∙ ap (λ (n : ℕ). replicate n 0) c.all_rows-g.ensures.words; first = c.first_lacking.ensures }
-
-pub first_beyond-r-requires : goal.first_beyond-r-requires
-first_beyond-r-requires c = let g = c.all_rows-g.ensures in (c.requires.1, g.room, omega (arith, g.words))
-
-pub returns : goal.returns
-returns c =
+pub returns-clause-first : goal.returns-clause-first
+returns-clause-first c =
     let a = c.args in
-    let g = c.all_rows-g in
-    let r = c.first_beyond-r in record { words = c.clear-2.ensures.zeros ∙ ap (λ (n : ℕ). replicate n 0) (r.ensures.words.0 ∙ g.ensures.words); first = (r.ensures.words.1, r.ensures.first ∙ new_lacks (model_of a.model) (program_of a.first) a.other (program_of a.second) c.requires.1 _ g.result.known (g.ensures.exact (not-false _ c.if-not-g.false))) }
+    elim c.match-all_rows.branch [
+      | in-Some w ↦ ap found_of w.found-is ∙ w.first_beyond-found.ensures.first
+          ∙ new_lacks (model_of a.model) (program_of a.first) a.other (program_of a.second) c.requires.1 _ w.in-Some.known w.in-Some.ensures.exact
+      | in-None w ↦ ap found_of w.found-is ∙ w.first_lacking-found.ensures.first
+    ]

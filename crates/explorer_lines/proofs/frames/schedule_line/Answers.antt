@@ -1,21 +1,9 @@
 -- `schedule_line` writes the row with 50 in place of the number of steps, and without what stands behind the steps.
-use Rattle.std.proofs.Common.{rules, ◌≡◌, sym, arith, length, set, take, length-set, length-take-le, ◌+◌, ◌≤◌}
+use Rattle.std.proofs.Common.{arith, length, set, take, ◌+◌}
 use Rattle.spec_file.proofs.Text.{length_written}
 use Rattle.explorer_lines.proofs.RowText.{row_frame}
 use Rattle.explorer_lines.proofs.LineLoop.{frame_wrote}
 use Rattle.explorer_lines.proofs.frames.schedule_line.Goals as goal
-
-pub slice_bounds-frame-end : goal.slice_bounds-frame-end
-slice_bounds-frame-end c =
-    let within : c.steps_of-n.result + 2 ≤ length (set c.args.row 0 0x50) = let n : length c.args.row ≡ 26 = search rules in
-    omega (arith, length-set c.args.row 0 0x50, c.steps_of-n.ensures.most) in
-    within
-
-pub slice_bounds-write-end : goal.slice_bounds-write-end
-slice_bounds-write-end c =
-    let within : c.steps_of-n.result + 2 ≤ length (set c.args.row 0 0x50) = let n : length c.args.row ≡ 26 = search rules in
-    omega (arith, length-set c.args.row 0 0x50, c.steps_of-n.ensures.most) in
-    sym (length-take-le _ _ (within))
 
 pub returns : goal.returns
 returns c =

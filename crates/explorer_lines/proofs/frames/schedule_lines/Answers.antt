@@ -14,20 +14,13 @@ pub loop-k-init : goal.loop-k-init
 unfolding filter
 loop-k-init c = (search rules, search rules, search rules, search rules, λ p ss held w short. (wrote_none c.args.out.now, refl))
 
-pub overflow_add-at : goal.overflow_add-at
-overflow_add-at c =
-    let room : c.loop-k.at + c.schedule_line-at.result ≤ length c.loop-k.out = let l = c.loop-k in
-    let h : c.schedule_line-at.result ≤ length (mid_of l.at (length l.out - l.at) l.out) = c.schedule_line-at.ensures.within in
-    omega (arith, h, mid_len l.at (length l.out) l.out (omega arith), l.invariant.1) in
-    omega (arith, room, c.loop-k.invariant.2)
-
 pub loop-k-preserved : goal.loop-k-preserved
 loop-k-preserved c =
     let room : c.loop-k.at + c.schedule_line-at.result ≤ length c.loop-k.out = let l = c.loop-k in
     let h : c.schedule_line-at.result ≤ length (mid_of l.at (length l.out - l.at) l.out) = c.schedule_line-at.ensures.within in
     omega (arith, h, mid_len l.at (length l.out) l.out (omega arith), l.invariant.1) in
     let l = c.loop-k in
-    let kept : length (put_mid l.at (length l.out - l.at) l.out c.schedule_line-at.new.out) ≡ length l.out = c.out-1.given.1 in (
+    let kept : length (put_mid l.at (length l.out - l.at) l.out c.schedule_line-at.new.out) ≡ length l.out = search rules in (
       search rules,
       omega (arith, room, kept),
       kept ∙ l.invariant.2,

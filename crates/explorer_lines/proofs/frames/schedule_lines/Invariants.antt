@@ -1,5 +1,5 @@
 -- `schedule_lines` goes through the rows. The invariant: the lines of the first k schedules stand in front of the output, and so many of these fail.
-use Rattle.std.proofs.Common.{ℕ, ◌-◌, ◌*◌, ◌≤◌, ◌≡◌, List, map, length, take}
+use Rattle.std.proofs.Common.{ℕ, ◌*◌, ◌≤◌, ◌≡◌, List, map, length, take}
 use Rattle.spec_file.specs.Program.{Program}
 use Rattle.spec_schedules.specs.Lists.{filter}
 use Rattle.spec_schedules.specs.Order.{Schedule}
@@ -16,6 +16,3 @@ invariant-loop-k l =
     (l.k ≤ l.n) × (l.at ≤ length l.out) × (length l.out ≡ length l.initial.out) × (l.failed ≤ l.k * 256)
     × ((p : Program) (ss : List Schedule) (held : List ℕ) → Shown sc p ss held l.rows l.n → Short ss
     → (Wrote (map (schedule_frame p) (take l.k ss)) l.initial.out l.out l.at) × (l.failed ≡ length (filter (failing sc p) (take l.k ss))))
-
-abbrev pub decreases-loop-k : goal.decreases-loop-k
-decreases-loop-k l = l.n - l.k

@@ -8,8 +8,5 @@ use Rattle.explorer_lines.proofs.frames.steps_of.Goals as goal
 counted : (s : Schedule) (f : Bool) (row : List ℕ) → row ≡ row_bytes 24 s f → get_or row 0 0 ≡ length s
 counted s f row e = ap (λ (l : List ℕ). get_or l 0 0) e ∙ row_steps_count 24 s f
 
-pub returns-then-n-gt-STEPS : goal.returns-then-n-gt-STEPS
-returns-then-n-gt-STEPS c = record { most = omega arith; steps = λ s f e h. omega (arith, h, c.if-n-gt-STEPS.true, c.wide-n.ensures.same, counted s f c.args.row e) }
-
-pub returns-else-n-gt-STEPS : goal.returns-else-n-gt-STEPS
-returns-else-n-gt-STEPS c = record { most = c.if-n-gt-STEPS.false; steps = λ s f e h. c.wide-n.ensures.same ∙ counted s f c.args.row e }
+pub returns-clause-steps : goal.returns-clause-steps
+returns-clause-steps c = λ s f e h. let n : c.wide.result ≡ length s = c.wide.ensures.same ∙ counted s f c.args.row e in grind arith

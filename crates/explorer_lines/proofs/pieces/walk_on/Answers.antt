@@ -1,143 +1,85 @@
 -- `walk_on` walks along the list and writes the lines of what it finds.
-use Rattle.std.proofs.Common.{rules, ℕ, ◌+◌, ◌-◌, ◌<◌, ◌≤◌, ◌^◌, ◌≡◌, refl, sym, subst, ◌∙◌, false, List, map, arith, length, take, replicate}
+use Rattle.std.proofs.Common.{rules, ℕ, ◌+◌, ◌-◌, ◌<◌, ◌≤◌, ◌^◌, ◌≡◌, sym, ◌∙◌, List, map, arith, length, take, replicate}
 use lib.ListN.{length-replicate}
-use borrow.Rule.Slice.PartMut.{mid_of, put_mid, mid_len}
+use borrow.Rule.Slice.PartMut.{mid_of, mid_len}
 use Rattle.file_decoder.specs.Compiled.{program_of}
 use Rattle.spec_schedules.specs.Lists.{filter}
 use Rattle.graph_writer.specs.NoteText.{Wrote}
 use Rattle.graph_writer.proofs.WrittenLines.{wrote_within}
 use Rattle.spec_model.specs.Model.{failing}
 use Rattle.spec_sc.specs.Sequential.{sc}
-use Rattle.listing_cursor.specs.declared.cursor.Page.{Page}
-use Rattle.listing_cursor.specs.ListRows.{Paged}
 use Rattle.spec_calls.specs.Printed.{schedule_frame}
-use Rattle.explorer_lines.specs.declared.pieces.Listing.{Listing}
-use Rattle.explorer_lines.specs.Pieces.{left, Ready, Next}
+use Rattle.explorer_lines.specs.Pieces.{left}
 use Rattle.explorer_lines.proofs.NextLines.{short_left, shown_left, few_rows, listed_fits, failed_fits, next_counts, next_more}
 use Rattle.explorer_lines.proofs.pieces.walk_on.Goals as goal
+use Rattle.explorer_lines.proofs.pieces.walk_on.Goals.{After-next_page-page, After-schedule_lines-lines}
 
+-- the bytes of the rows before there is a page
 abbrev empty : List ℕ
 empty = replicate 6656 0
 
 wide : length empty ≡ 6656
 wide = length-replicate {A = ℕ} 6656 0
 
+fits : (c : After-next_page-page) → c.args.walk.listed + c.next_page-page.result.rows < 2 ^ 64
+fits c = listed_fits c.args.walk c.requires.0 empty c.next_page-page.new.out c.next_page-page.result wide c.next_page-page.ensures
+
+-- the lines are those of the next 256 schedules, and so many of these fail
+wrote : (c : After-schedule_lines-lines)
+    → (Wrote (map (schedule_frame (program_of c.args.walk.program)) (take 256 (left c.args.walk))) c.args.out.now c.schedule_lines-lines.new.out c.schedule_lines-lines.result.length)
+    × (c.schedule_lines-lines.result.failed ≡ length (filter (failing sc (program_of c.args.walk.program)) (take 256 (left c.args.walk))))
+wrote c =
+    let w = c.args.walk in
+    let page = c.next_page-page in
+    c.schedule_lines-lines.ensures (program_of w.program) (take 256 (left w)) empty (shown_left w c.requires.0 empty page.new.out page.result wide page.ensures) (short_left w c.requires.0)
+
+room : (c : After-schedule_lines-lines) → (c.schedule_lines-lines.result.length ≤ length c.schedule_lines-lines.new.out) × (length c.schedule_lines-lines.new.out ≡ length c.args.out.now)
+room c = let h = wrote_within _ _ _ _ (wrote c).0 in (omega (arith, h.0, h.1), h.1)
+
 pub schedule_lines-lines-requires : goal.schedule_lines-lines-requires
 schedule_lines-lines-requires c =
-    let state : Listing = c.args.s in
-    let ready : Ready (state) = c.requires.1 in
-    let rows : List ℕ = c.next_page-page.new.out in
-    let page : Page = c.next_page-page.result in
-    let paged : Paged sc (program_of (state).program) false (state).cursor empty (rows) (page) = c.next_page-page.ensures in
-    (few_rows (state) (ready) empty (rows) (page) wide (paged), search rules)
+    let page = c.next_page-page in
+    (few_rows c.args.walk c.requires.0 empty page.new.out page.result wide page.ensures, search rules)
 
 pub overflow_add-listed : goal.overflow_add-listed
-overflow_add-listed c =
-    let state : Listing = c.args.s in
-    let ready : Ready state = c.requires.1 in
-    let rows : List ℕ = c.next_page-page.new.out in
-    let page : Page = c.next_page-page.result in
-    let paged : Paged sc (program_of state.program) false state.cursor empty rows page = c.next_page-page.ensures in
-    let h : state.listed + page.rows < 2 ^ 64 = listed_fits state ready empty rows page wide paged in
-    omega (arith, h)
+overflow_add-listed c = omega (arith, fits (goal.at.overflow_add-listed c).After-next_page-page)
 
 pub overflow_add-failed : goal.overflow_add-failed
 overflow_add-failed c =
-    let state : Listing = c.args.s in
-    let ready : Ready state = c.requires.1 in
-    let rows : List ℕ = c.next_page-page.new.out in
-    let page : Page = c.next_page-page.result in
-    let paged : Paged sc (program_of state.program) false state.cursor empty rows page = c.next_page-page.ensures in
-    let out : List ℕ = c.args.out.now in
-    let wrote : (Wrote (map (schedule_frame (program_of state.program)) (take 256 (left state))) (out) c.schedule_lines-lines.new.out c.schedule_lines-lines.result.length) × (c.schedule_lines-lines.result.failed ≡ length (filter (failing sc (program_of state.program)) (take 256 (left state)))) =
-    c.schedule_lines-lines.ensures (program_of state.program) (take 256 (left state)) empty
-    (shown_left state ready empty rows page wide paged) (short_left state ready) in
-    let h : state.listed + page.rows < 2 ^ 64 = listed_fits state ready empty rows page wide paged in
-    let k : state.failed + c.schedule_lines-lines.result.failed ≤ state.listed + page.rows =
-    failed_fits state ready empty rows page wide paged c.schedule_lines-lines.result.failed (wrote).1 in
-    omega (arith, h, k)
+    let here = (goal.at.overflow_add-failed c).After-schedule_lines-lines in
+    let page = c.next_page-page in
+    omega (
+      arith,
+      fits (goal.at.overflow_add-failed c).After-next_page-page,
+      failed_fits c.args.walk c.requires.0 empty page.new.out page.result wide page.ensures c.schedule_lines-lines.result.failed (wrote here).1,
+    )
 
 pub slice_bounds-count_line-count : goal.slice_bounds-count_line-count
-slice_bounds-count_line-count c =
-    let state : Listing = c.args.s in
-    let ready : Ready state = c.requires.1 in
-    let rows : List ℕ = c.next_page-page.new.out in
-    let page : Page = c.next_page-page.result in
-    let paged : Paged sc (program_of state.program) false state.cursor empty rows page = c.next_page-page.ensures in
-    let out : List ℕ = c.args.out.now in
-    let wrote : (Wrote (map (schedule_frame (program_of state.program)) (take 256 (left state))) (out) c.schedule_lines-lines.new.out c.schedule_lines-lines.result.length) × (c.schedule_lines-lines.result.failed ≡ length (filter (failing sc (program_of state.program)) (take 256 (left state)))) =
-    c.schedule_lines-lines.ensures (program_of state.program) (take 256 (left state)) empty
-    (shown_left state ready empty rows page wide paged) (short_left state ready) in
-    let room : c.schedule_lines-lines.result.length ≤ length c.schedule_lines-lines.new.out = let h = wrote_within _ _ _ _ (wrote).0 in omega (arith, h.0, h.1) in
-    room
+slice_bounds-count_line-count c = (room (goal.at.slice_bounds-count_line-count c).After-schedule_lines-lines).0
 
 pub slice_bounds-count_line-start : goal.slice_bounds-count_line-start
-slice_bounds-count_line-start c =
-    let state : Listing = c.args.s in
-    let ready : Ready state = c.requires.1 in
-    let rows : List ℕ = c.next_page-page.new.out in
-    let page : Page = c.next_page-page.result in
-    let paged : Paged sc (program_of state.program) false state.cursor empty rows page = c.next_page-page.ensures in
-    let out : List ℕ = c.args.out.now in
-    let wrote : (Wrote (map (schedule_frame (program_of state.program)) (take 256 (left state))) (out) c.schedule_lines-lines.new.out c.schedule_lines-lines.result.length) × (c.schedule_lines-lines.result.failed ≡ length (filter (failing sc (program_of state.program)) (take 256 (left state)))) =
-    c.schedule_lines-lines.ensures (program_of state.program) (take 256 (left state)) empty
-    (shown_left state ready empty rows page wide paged) (short_left state ready) in
-    let room : c.schedule_lines-lines.result.length ≤ length c.schedule_lines-lines.new.out = let h = wrote_within _ _ _ _ (wrote).0 in omega (arith, h.0, h.1) in
-    room
+slice_bounds-count_line-start c = (room (goal.at.slice_bounds-count_line-start c).After-schedule_lines-lines).0
 
-pub overflow_add-at : goal.overflow_add-at
-overflow_add-at c =
-    let out : List ℕ = c.args.out.now in
-    let state : Listing = c.args.s in
-    let ready : Ready state = c.requires.1 in
-    let rows : List ℕ = c.next_page-page.new.out in
-    let page : Page = c.next_page-page.result in
-    let paged : Paged sc (program_of state.program) false state.cursor empty rows page = c.next_page-page.ensures in
-    let wrote : (Wrote (map (schedule_frame (program_of state.program)) (take 256 (left state))) (out) c.schedule_lines-lines.new.out c.schedule_lines-lines.result.length) × (c.schedule_lines-lines.result.failed ≡ length (filter (failing sc (program_of state.program)) (take 256 (left state)))) =
-    c.schedule_lines-lines.ensures (program_of state.program) (take 256 (left state)) empty
-    (shown_left state ready empty rows page wide paged) (short_left state ready) in
-    let room : c.schedule_lines-lines.result.length ≤ length c.schedule_lines-lines.new.out = let h = wrote_within _ _ _ _ (wrote).0 in omega (arith, h.0, h.1) in
-    let count-line = c.count_line in
+pub overflow_add-result : goal.overflow_add-result
+overflow_add-result c =
+    let h = room (goal.at.overflow_add-result c).After-schedule_lines-lines in
     let xs : List ℕ = c.schedule_lines-lines.new.out in
     let at : ℕ = c.schedule_lines-lines.result.length in
-    let h : count-line.result ≤ length (mid_of at (length xs - at) xs) = (wrote_within _ _ _ _ count-line.ensures).0 in
-    let k : length xs ≡ length (out) = (wrote_within _ _ _ _ (wrote).0).1 in
-    let z : at + count-line.result < 2 ^ 64 = omega (arith, h, k, room, mid_len at (length xs) xs (omega arith), c.well_formed.1.0.0) in
-    record { fits = z }
+    let k : c.count_line.result ≤ length (mid_of at (length xs - at) xs) = (wrote_within _ _ _ _ c.count_line.ensures).0 in
+    omega (arith, h.0, h.1, k, mid_len at (length xs) xs (omega (arith, h.0)))
 
 pub returns-then-is_end : goal.returns-then-is_end
 returns-then-is_end c =
-    let state : Listing = c.args.s in
-    let ready : Ready state = c.requires.1 in
-    let rows : List ℕ = c.next_page-page.new.out in
-    let page : Page = c.next_page-page.result in
-    let paged : Paged sc (program_of state.program) false state.cursor empty rows page = c.next_page-page.ensures in
-    let out : List ℕ = c.args.out.now in
-    let wrote : (Wrote (map (schedule_frame (program_of state.program)) (take 256 (left state))) (out) c.schedule_lines-lines.new.out c.schedule_lines-lines.result.length) × (c.schedule_lines-lines.result.failed ≡ length (filter (failing sc (program_of state.program)) (take 256 (left state)))) =
-    c.schedule_lines-lines.ensures (program_of state.program) (take 256 (left state)) empty
-    (shown_left state ready empty rows page wide paged) (short_left state ready) in
-    let count-line = c.count_line in
-    let s : Listing = state in
-    let xs : List ℕ = c.schedule_lines-lines.new.out in
-    let ys : List ℕ = count-line.new.out in
-    let at : ℕ = c.schedule_lines-lines.result.length in
-    let m : ℕ = count-line.result in
-    let q = c.requires in
-    subst (λ (k : ℕ). (k ≤ length (put_mid at (length xs - at) xs ys)) × Next s (take k (put_mid at (length xs - at) xs ys)) c.last_piece.result.listing) (sym c.last_piece.ensures.0)
-    (next_counts s ready empty rows page wide paged c.last_piece.result.listing (out) xs ys at m c.schedule_lines-lines.result.failed
-    q.0 c.last_piece.ensures.1 q.2 (sym c.is_end.ensures ∙ c.if-is_end.true) (wrote).0 (wrote).1 count-line.ensures)
+    let page = c.next_page-page in
+    let lines = c.schedule_lines-lines in
+    let so = wrote (goal.at.returns-then-is_end c).After-schedule_lines-lines in
+    next_counts c.args.walk c.requires.0 empty page.new.out page.result wide page.ensures c.args.out.now lines.new.out c.count_line.new.out lines.result.length c.count_line.result
+    lines.result.failed c.requires.1 (sym c.is_end.ensures ∙ c.if-is_end.true) so.0 so.1 c.count_line.ensures
 
 pub returns : goal.returns
 returns c =
-    let state : Listing = c.args.s in
-    let ready : Ready state = c.requires.1 in
-    let rows : List ℕ = c.next_page-page.new.out in
-    let page : Page = c.next_page-page.result in
-    let paged : Paged sc (program_of state.program) false state.cursor empty rows page = c.next_page-page.ensures in
-    let out : List ℕ = c.args.out.now in
-    let wrote : (Wrote (map (schedule_frame (program_of state.program)) (take 256 (left state))) (out) c.schedule_lines-lines.new.out c.schedule_lines-lines.result.length) × (c.schedule_lines-lines.result.failed ≡ length (filter (failing sc (program_of state.program)) (take 256 (left state)))) =
-    c.schedule_lines-lines.ensures (program_of state.program) (take 256 (left state)) empty
-    (shown_left state ready empty rows page wide paged) (short_left state ready) in
-    let q = c.requires in
-    next_more state ready empty rows page wide paged (sym c.is_end.ensures ∙ c.if-is_end.false) _ c.schedule_lines-lines.result.failed (wrote).1
-    refl refl refl refl (out) c.schedule_lines-lines.new.out c.schedule_lines-lines.result.length q.0 refl q.2 (wrote).0
+    let page = c.next_page-page in
+    let lines = c.schedule_lines-lines in
+    let so = wrote (goal.at.returns c).After-schedule_lines-lines in
+    next_more c.args.walk c.requires.0 empty page.new.out page.result wide page.ensures (sym c.is_end.ensures ∙ c.if-is_end.false) lines.result.failed so.1
+    c.args.out.now lines.new.out lines.result.length c.requires.1 so.0

@@ -1,12 +1,9 @@
 -- `in_thread` looks at one instruction after the other. The invariant: what is left decides.
-use Rattle.std.proofs.Common.{◌≤◌, ◌-◌, ◌≡◌, List, length, drop}
+use Rattle.std.proofs.Common.{◌≡◌, List, length, drop}
 use Rattle.spec_file.specs.Decode.{Placed, far_skip}
 use Rattle.file_decoder.specs.Held.{HeldThread}
 use Rattle.file_decoder.proofs.skip.in_thread.Given as goal
 
 abbrev pub invariant-loop-i : goal.invariant-loop-i
 invariant-loop-i l =
-    (l.i ≤ l.n) × ((xs : List Placed) → HeldThread l.code l.rows l.t xs → l.n ≡ length xs → far_skip xs ≡ far_skip (drop l.i xs))
-
-abbrev pub decreases-loop-i : goal.decreases-loop-i
-decreases-loop-i l = l.n - l.i
+    (xs : List Placed) → HeldThread l.code l.rows l.t xs → l.n ≡ length xs → far_skip xs ≡ far_skip (drop l.i xs)

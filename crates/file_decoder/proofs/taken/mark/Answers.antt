@@ -1,12 +1,9 @@
-use Rattle.std.proofs.Common.{rules, refl, ◌∙◌, sym, arith}
+use Rattle.std.proofs.Common.{◌∙◌, sym, arith}
 use lib.Seq.{set_out}
 use Rattle.spec_file.specs.Frame.{pairs}
 use Rattle.file_decoder.proofs.HeldWrite.{marking, marked_none}
 use Rattle.file_decoder.proofs.taken.mark.Goals.{else-t-lt6, then-t-lt6}
 use Rattle.file_decoder.proofs.taken.mark.Goals as goal
-
-pub loop-j-init : goal.loop-j-init
-loop-j-init c = (search rules, refl)
 
 pub loop-j-preserved : goal.loop-j-preserved
 loop-j-preserved c =

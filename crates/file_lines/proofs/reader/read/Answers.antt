@@ -1,7 +1,8 @@
-use Rattle.std.proofs.Common.{arith, refl, sym, ◌∙◌, false, rules}
+use Rattle.std.proofs.Common.{arith, sym}
 use Rattle.spec_file.proofs.Meaning.{no_remark}
 use Rattle.file_lines.proofs.Meaning.{line_of_empty, line_of_remark}
-use Rattle.file_lines.proofs.Passed.{first_broken, second_broken, two_passed, one_left, all_passed}
+use Rattle.file_lines.proofs.Passed.{digits_frame, others_broken}
+use Rattle.file_lines.proofs.reader.read.Goals.{then-line-ne0-via-then-line-ne0, then-line-ne0-via-else-line-ne0+then-not-all_digits}
 use Rattle.file_lines.proofs.reader.read.Goals as goal
 
 pub returns-then-line-eq0 : goal.returns-then-line-eq0
@@ -10,33 +11,12 @@ returns-then-line-eq0 c = sym (line_of_empty _ c.if-line-eq0.true)
 pub returns-then-line-eq35 : goal.returns-then-line-eq35
 returns-then-line-eq35 c = sym (line_of_remark _ (omega arith) c.if-line-eq35.true)
 
-pub loop-i-init : goal.loop-i-init
-loop-i-init c = (search rules, refl, no_remark _ c.if-line-eq35.false)
-
-pub returns-then-not-is_digit : goal.returns-then-not-is_digit
-returns-then-not-is_digit c =
-    let at = c.loop-i in
-    sym (first_broken _ at.invariant.2 at.i at.invariant.1 c.loop-i-test.true (sym c.is_digit.ensures ∙ c.if-not-is_digit.true))
-
-pub returns-then-not-is_digit-2 : goal.returns-then-not-is_digit-2
-returns-then-not-is_digit-2 c =
-    let at = c.loop-i in
-    let more = c.loop-i-test.true in
-    sym (second_broken _ at.invariant.2 at.i at.invariant.1 more (sym c.is_digit-in-loop-i.ensures ∙ c.if-not-is_digit-2.true))
-
-pub loop-i-preserved : goal.loop-i-preserved
-loop-i-preserved c =
-    let at = c.loop-i in
-    let more = c.loop-i-test.true in
-    let first = sym c.is_digit.ensures ∙ c.if-not-is_digit.false in
-    (search rules, two_passed _ at.invariant.2 at.i at.invariant.1 more first (sym c.is_digit-in-loop-i.ensures ∙ c.if-not-is_digit-2.false), at.invariant.2)
-
-pub returns-then-i-line : goal.returns-then-i-line
-returns-then-i-line c =
-    let at = c.loop-i in
-    sym (one_left _ at.invariant.2 at.i at.invariant.1 c.if-i-line.true c.loop-i-test.false)
+pub returns-then-line-ne0 : goal.returns-then-line-ne0
+returns-then-line-ne0 c =
+    sym (others_broken _ (no_remark _ c.if-line-eq35.false) (λ (even, digits). elim c.then-line-ne0.branch [
+      | then-line-ne0-via-then-line-ne0 w ↦ w.if-line-ne0.true even
+      | then-line-ne0-via-else-line-ne0+then-not-all_digits w ↦ let d = w.all_digits.ensures.1 digits in absurd cc
+    ]))
 
 pub returns : goal.returns
-returns c =
-    let at = c.loop-i in
-    sym (all_passed _ at.invariant.2 at.i at.invariant.1 (omega arith) c.if-i-line.false)
+returns c = sym (digits_frame _ (no_remark _ c.if-line-eq35.false) (omega arith) c.if-line-ne0.false (c.all_digits.ensures.0 c.if-not-all_digits.false))

@@ -1,4 +1,4 @@
-use Rattle.std.proofs.Common.{arith, ◌≡◌, refl, sym, length, length-set, rules}
+use Rattle.std.proofs.Common.{arith, ◌≡◌, refl, sym, length}
 use Rattle.spec_file.specs.Text.{digits}
 use Rattle.spec_file.specs.Over.{over}
 use Rattle.spec_file.proofs.Over.{over_nil}
@@ -14,21 +14,12 @@ returns-then-out-n c =
 
 pub loop-k-init : goal.loop-k-init
 unfolding over digits
-loop-k-init c = (search rules, search rules, refl)
-
-pub bounds-out-k-in-loop-k : goal.bounds-out-k-in-loop-k
-bounds-out-k-in-loop-k c = simp length-set (omega arith)
+loop-k-init c = refl
 
 pub loop-k-preserved : goal.loop-k-preserved
 loop-k-preserved c =
-    let s = c.args in
     let at = c.loop-k in
-    let room = c.if-out-n.false in (
-      search rules,
-      search rules,
-      over_byte s.bytes.now s.out.now at.out at.k _ _ c.loop-k-test.true room at.invariant.2
-          c.high-x.ensures c.low-y.ensures,
-    )
+    over_byte c.args.bytes.now c.args.out.now at.out at.k _ _ c.loop-k-test.true c.if-out-n.false at.invariant c.high.ensures c.low.ensures
 
 pub returns : goal.returns
 returns c =
@@ -36,4 +27,5 @@ returns c =
     let at = c.loop-k in
     let room = c.if-out-n.false in
     let e = written_fits s.bytes.now (length s.out.now) room in
-    let k : at.k ≡ length s.bytes.now = omega arith in record { count = rw e (sym (length_text s.bytes.now)); content = rw e (over_last s.bytes.now s.out.now at.out room (rw k at at.invariant.2)) }
+    let k : at.k ≡ length s.bytes.now = omega arith in
+    record { count = rw e (sym (length_text s.bytes.now)); content = rw e (over_last s.bytes.now s.out.now at.out room (rw k at at.invariant)) }

@@ -14,9 +14,9 @@ returns-then-code-at-eq1 c =
       ← c.join-v.ensures,
     )
 
-pub returns : goal.returns
+pub returns-else-code-at-eq1 : goal.returns-else-code-at-eq1
 unfolding operand
-returns c =
+returns-else-code-at-eq1 c =
     rw (
       row_byte c.args.code.now c.args.row c.args.j (omega arith),
       ne_eqb _ _ c.if-code-at-eq1.false,

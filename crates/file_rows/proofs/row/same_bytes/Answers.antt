@@ -1,20 +1,12 @@
-use Rattle.std.proofs.Common.{rules, ◌∙◌, sym, arith}
-use Rattle.file_rows.proofs.Agree.{agree_start, agree_more, agree_differ, agree_none}
+use Rattle.std.proofs.Common.{◌≡◌, ◌+◌, ◌-◌, ◌∙◌, arith}
+use Rattle.file_rows.proofs.Agree.{agree_parts}
 use Rattle.file_rows.proofs.row.same_bytes.Goals as goal
 
-pub loop-k-init : goal.loop-k-init
-loop-k-init c = (search rules, agree_start _ _ _ _)
-
-pub returns-then-code-a : goal.returns-then-code-a
-returns-then-code-a c =
-    sym (c.loop-k.invariant.1 ∙ agree_differ c.args.code.now c.args.a c.args.b c.args.n c.loop-k.k c.loop-k-test.true c.if-code-a.true)
-
-pub loop-k-preserved : goal.loop-k-preserved
-loop-k-preserved c = (
-  search rules,
-  c.loop-k.invariant.1 ∙ agree_more c.args.code.now c.args.a c.args.b c.args.n c.loop-k.k c.loop-k-test.true
-      c.if-code-a.false,
-)
-
 pub returns : goal.returns
-returns c = sym (c.loop-k.invariant.1 ∙ agree_none _ _ _ _ (omega arith))
+returns c =
+    let a = c.args.a in
+    let b = c.args.b in
+    let n = c.args.n in
+    let left : a + n - a ≡ n = omega arith in
+    let right : b + n - b ≡ n = omega arith in
+    c.eq.ensures ∙ rw (left, right) (agree_parts c.args.code.now a b n (omega arith) (omega arith))

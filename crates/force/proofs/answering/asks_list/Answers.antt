@@ -7,5 +7,4 @@ pub tails_of-tails-requires : goal.tails_of-tails-requires
 tails_of-tails-requires c = (program_of c.args.program, loaded_compiled c.args.program c.requires)
 
 pub started-requires : goal.started-requires
-started-requires c =
-    (program_of c.args.program, loaded_compiled c.args.program c.requires)
+started-requires c = (program_of c.args.program, loaded_compiled c.args.program c.requires)

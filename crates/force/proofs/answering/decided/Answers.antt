@@ -1,6 +1,4 @@
 -- `decided` makes the game ready, and clears the table before and after.
-use Rattle.std.proofs.Common.{ap, ◌∙◌, ℕ, length, replicate}
-use lib.ListN.{length-replicate}
 use Rattle.file_decoder.specs.Compiled.{program_of}
 use Rattle.machine.proofs.HeldStart.{loaded_compiled, starting_compiled}
 use Rattle.force_moves.proofs.Steps.{standing_start}
@@ -21,15 +19,13 @@ settled-r-requires c =
     let p = program_of program in
     let loaded = loaded_compiled program c.requires in
     let standing = standing_start program.code program.lengths c.tails_of-tails.result program.threads c.started-m.result p loaded c.tails_of-tails.ensures (c.started-m.ensures.1 p loaded (starting_compiled program)) in
-    ((program.threads, p, standing), c.width-n.ensures.0)
+    ((program.threads, p, standing), c.width-width.ensures.0)
 
-pub returns : goal.returns
-returns c =
+pub returns-clause-answer : goal.returns-clause-answer
+returns-clause-answer c =
     let program = c.args.program in
     let p = program_of program in
     let loaded = loaded_compiled program c.requires in
-    let standing = standing_start program.code program.lengths c.tails_of-tails.result program.threads c.started-m.result p loaded c.tails_of-tails.ensures (c.started-m.ensures.1 p loaded (starting_compiled program)) in record {
-      answer = c.settled-r.ensures.answer program.threads p
-          (playing_start _ _ _ _ program.threads _ _ _ _ p standing c.live_masks-masks.ensures (c.width-n.ensures.1 program.code program.lengths program.threads p loaded c.live_masks-masks.ensures) c.clear.ensures.nothing);
-      zeros = c.clear-2.ensures.zeros ∙ ap (λ (n : ℕ). replicate n 0) (c.settled-r.ensures.words ∙ ap length c.clear.ensures.zeros ∙ length-replicate {A = ℕ} (length c.args.table.now) 0);
-    }
+    let standing = standing_start program.code program.lengths c.tails_of-tails.result program.threads c.started-m.result p loaded c.tails_of-tails.ensures (c.started-m.ensures.1 p loaded (starting_compiled program)) in
+    c.settled-r.ensures.answer program.threads p
+    (playing_start _ _ _ _ program.threads _ _ _ _ p standing c.live_masks-masks.ensures (c.width-width.ensures.1 program.code program.lengths program.threads p loaded c.live_masks-masks.ensures) c.clear.ensures.nothing)

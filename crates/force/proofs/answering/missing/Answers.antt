@@ -1,30 +1,21 @@
-use Rattle.std.proofs.Common.{rules, arith, sym, ◌∙◌, true, true≢false}
-use Rattle.machine.proofs.HeldAsking.{one_more}
-use Rattle.force.proofs.answering.missing.Invariants.{Named}
-use Rattle.force.proofs.answering.missing.Goals.{else-is_in, then-is_in+else-threads-k}
+-- `missing` is the library's search over the eight numbers.
+use Rattle.std.proofs.Common.{ℕ, ◌<◌, ◌≤◌, ◌≡◌, true, Option, Some, None, MatchOption, arith, rules, tests}
+use Rattle.std.proofs.lemmas.Iterator.{first_from_Range}
+use Rattle.spec_schedules.specs.Sets.{has}
+use Rattle.force.specs.Answered.{Missing, FirstMissing}
 use Rattle.force.proofs.answering.missing.Goals as goal
 
-pub loop-k-init : goal.loop-k-init
-loop-k-init c = (search rules, λ j b. absurd (omega arith))
+-- the number names a thread, if it is in the set
+abbrev Named : ℕ → ℕ → ℕ → Type 0
+Named set threads k = has set k ≡ true → k < threads
 
-pub returns-then-threads-k : goal.returns-then-threads-k
-returns-then-threads-k c =
-    let loop = c.loop-k in
-    record { below = loop.invariant.1; most = loop.invariant.0; named = λ b. sym c.is_in.ensures ∙ c.if-is_in.true; missing = λ b. c.if-threads-k.true }
-
-pub loop-k-preserved : goal.loop-k-preserved
-loop-k-preserved c =
-    let args = c.args in
-    let loop = c.loop-k in (
-      search rules,
-      one_more (Named args.set args.threads) loop.k loop.invariant.1
-          (elim c.if-is_in.branch [
-            | then-is_in+else-threads-k w ↦ λ e. omega (arith, w.if-threads-k.false)
-            | else-is_in w ↦ λ e. absurd (true≢false (sym e ∙ sym c.is_in.ensures ∙ w.if-is_in.false))
-          ]),
-    )
+first_missing : (set threads : ℕ) (r : Option ℕ) → MatchOption r ((k : ℕ) → 0 ≤ k → k < 8 → Named set threads k)
+    (λ i. (0 ≤ i) × (i < 8) × Missing set threads i × ((k : ℕ) → 0 ≤ k → k < i → Named set threads k)) → FirstMissing set threads r
+first_missing set threads None h = λ k b m. h k (omega arith) b m
+first_missing set threads (Some i) h = (h.1, h.2, λ k b m. h.3 k (omega arith) b m)
 
 pub returns : goal.returns
 returns c =
-    let loop = c.loop-k in
-    record { below = λ j b. loop.invariant.1 j (omega (arith, b, c.loop-k-test.false)); most = search rules; named = λ b. absurd (omega (arith, b)); missing = λ b. absurd (omega (arith, b)) }
+    let x = c.args in
+    first_missing x.set x.threads c.find.result
+    (first_from_Range _ _ _ c.find.result (Missing x.set x.threads) (Named x.set x.threads) c.find.ensures.ran (λ k q e. search (rules, tests)) (λ k q e. search (rules, tests)))

@@ -1,31 +1,26 @@
-use Rattle.std.proofs.Common.{rules, arith, sym, ◌∙◌}
-use borrow.Author.Tests.{not-false}
-use mathlib.Core.Bool.{false≢true}
-use Rattle.machine.proofs.HeldAsking.{one_more}
-use Rattle.force.proofs.answering.owns_all.Invariants.{Owned}
-use Rattle.force.proofs.answering.owns_all.Goals.{else-not-is_in, then-not-is_in+else-k-threads}
+-- `owns_all` is the library's question of the eight numbers.
+use Rattle.std.proofs.Common.{ℕ, ◌<◌, ◌≤◌, ◌≡◌, Bool, true, false, MatchBool, get_or, refl, subst, arith, rules, tests}
+use Rattle.std.proofs.lemmas.Bool.{false≢true}
+use Rattle.std.specs.List.{AllWithin, HoldsAt, range_with_len}
+use Rattle.std.proofs.lemmas.Iterator.{cases_from_all, YieldsList-from_range}
+use Rattle.std.proofs.lemmas.List.FromFn.{get_or-range_with_len}
+use Rattle.spec_schedules.specs.Sets.{has}
 use Rattle.force.proofs.answering.owns_all.Goals as goal
 
-pub returns-then-threads-gt8 : goal.returns-then-threads-gt8
-returns-then-threads-gt8 c e = absurd (false≢true e)
+-- the number is in the set, if it names a thread
+abbrev Owned : ℕ → ℕ → ℕ → Type 0
+Owned set threads k = k < threads → has set k ≡ true
 
-pub loop-k-init : goal.loop-k-init
-loop-k-init c = (search rules, λ j b. absurd (omega (arith, b)))
+all_owned : (set threads : ℕ) → threads ≤ 8 → (r : Bool)
+    → MatchBool r (AllWithin (Owned set threads) (range_with_len 0 8) 0 8) ((k : ℕ) × (k < 8) × HoldsAt (λ k. Unit {0}) (range_with_len 0 8) k)
+    → r ≡ true → (t : ℕ) → t < threads → has set t ≡ true
+all_owned set threads e false h q t b = absurd (false≢true q)
+all_owned set threads e true h q t b =
+    let at : get_or (range_with_len 0 8) t 0 ≡ t = omega (arith, get_or-range_with_len 0 8 t 0 (omega arith)) in
+    subst (Owned set threads) at (h t 0 (omega arith) (omega arith)) b
 
-pub returns-then-k-threads : goal.returns-then-k-threads
-returns-then-k-threads c e = absurd (false≢true e)
-
-pub loop-k-preserved : goal.loop-k-preserved
-loop-k-preserved c =
-    let args = c.args in
-    let loop = c.loop-k in (
-      search rules,
-      one_more (Owned args.set args.threads) loop.k loop.invariant.1
-          (elim c.if-not-is_in.branch [
-            | then-not-is_in+else-k-threads w ↦ λ b. absurd (omega (arith, b, w.if-k-threads.false))
-            | else-not-is_in w ↦ λ b. sym c.is_in.ensures ∙ not-false _ w.if-not-is_in.false-raw
-          ]),
-    )
-
-pub returns : goal.returns
-returns c e t b = c.loop-k.invariant.1 t (omega (arith, b, c.loop-k-test.false, c.if-threads-gt8.false)) b
+pub returns-then-threads-le8 : goal.returns-then-threads-le8
+returns-then-threads-le8 c =
+    let x = c.args in
+    all_owned x.set x.threads c.if-threads-le8.true c.all.result
+    (cases_from_all _ _ _ (Owned x.set x.threads) (λ k. Unit {0}) c.all.ensures.ran (YieldsList-from_range 0 8 8 refl refl) (λ k q e. search (rules, tests)) (λ k q e. tt))

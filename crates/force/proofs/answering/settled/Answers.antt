@@ -12,54 +12,32 @@ use Rattle.force.specs.Answered.{answer_of}
 use Rattle.force.proofs.Forcing.{pass_friendly, pass_hostile}
 use Rattle.force.proofs.answering.settled.Goals as goal
 
-pub least_winning-t-requires : goal.least_winning-t-requires
-least_winning-t-requires c =
-    c.requires
+pub overflow_add-result : goal.overflow_add-result
+overflow_add-result c = omega (arith, c.in-Some.ensures.within)
 
-pub returns-then-t-lt6 : goal.returns-then-t-lt6
+pub returns-in-Some-clause-answer : goal.returns-in-Some-clause-answer
 unfolding answer_of side_of run
-returns-then-t-lt6 c = record {
-  words = c.least_winning-t.ensures.words;
-  answer = λ threads p play.
-      let w = play.standing.loaded.well_formed in
-      let able = c.has_step.ensures c.args.code.now (end_of p []) play.standing.holds in
-      let first = (c.least_winning-t.ensures.first threads p play).0 in
-      (hostile_can (some c.least_winning-t.result), steps_forced c.args.set p w c.least_winning-t.result c.if-t-lt6.true (sym able ∙ c.if-has_step.true) (first.found c.if-t-lt6.true) first.below, refl);
-}
+returns-in-Some-clause-answer c = λ threads p play.
+    let able = c.has_step.ensures c.args.game.now.program.code (end_of p []) play.standing.holds in
+    let first = (c.in-Some.ensures.first threads p play).0 in
+    (hostile_can (some c.in-Some.t), steps_forced c.args.game.now.set p play.standing.loaded.well_formed c.in-Some.t first.0 (sym able ∙ c.if-has_step.true) first.1 first.2, refl)
 
-pub returns-then-has_step : goal.returns-then-has_step
+pub returns-in-None-clause-answer : goal.returns-in-None-clause-answer
 unfolding answer_of side_of run
-returns-then-has_step c = record {
-  words = c.least_winning-t.ensures.words;
-  answer = λ threads p play.
-      let w = play.standing.loaded.well_formed in
-      let able = c.has_step.ensures c.args.code.now (end_of p []) play.standing.holds in
-      let first = (c.least_winning-t.ensures.first threads p play).0 in
-      (friendly_can, steps_lost c.args.set p w (sym able ∙ c.if-has_step.true) (λ u b. first.below u (omega (arith, b, c.if-t-lt6.false))), refl);
-}
+returns-in-None-clause-answer c = λ threads p play.
+    let able = c.has_step.ensures c.args.game.now.program.code (end_of p []) play.standing.holds in
+    (friendly_can, steps_lost c.args.game.now.set p play.standing.loaded.well_formed (sym able ∙ c.if-has_step.true) (c.in-None.ensures.first threads p play).0, refl)
 
-pub friendly_move-r-requires : goal.friendly_move-r-requires
-friendly_move-r-requires c =
-    ((c.requires.0.0, c.requires.0.1, [], c.requires.0.2), c.requires.1)
-
-pub returns-then-r : goal.returns-then-r
+pub returns-then-friendly_move-clause-answer : goal.returns-then-friendly_move-clause-answer
 unfolding answer_of side_of run other
-returns-then-r c = record {
-  words = c.friendly_move-r.ensures.words;
-  answer = λ threads p play.
-      let w = play.standing.loaded.well_formed in
-      let able = c.has_step.ensures c.args.code.now (end_of p []) play.standing.holds in
-      let next = (c.friendly_move-r.ensures.wins threads p [] (play_pass c.args.code.now c.args.lengths.now c.args.tails.now c.args.masks.now threads c.args.set c.args.shape hostile c.args.m c.args.table.now 49 p [] play c.has_step.result able (ap not c.if-has_step.false))).0 in
-      (friendly_can, pass_lost c.args.set p w (sym able ∙ c.if-has_step.false) (pass_friendly c.args.set p c.friendly_move-r.result next c.if-r.true), refl);
-}
+returns-then-friendly_move-clause-answer c = λ threads p play.
+    let able = c.has_step.ensures c.args.game.now.program.code (end_of p []) play.standing.holds in
+    let next = (c.friendly_move.ensures.wins threads p [] (play_pass c.args.game.now.program.code c.args.game.now.program.lengths c.args.game.now.tails c.args.game.now.masks threads c.args.game.now.set c.args.game.now.shape hostile c.args.m c.args.table.now 49 p [] play c.has_step.result able (ap not c.if-has_step.false))).0 in
+    (friendly_can, pass_lost c.args.game.now.set p play.standing.loaded.well_formed (sym able ∙ c.if-has_step.false) (pass_friendly c.args.game.now.set p c.friendly_move.result next c.if-friendly_move.true), refl)
 
-pub returns : goal.returns
+pub returns-else-friendly_move-clause-answer : goal.returns-else-friendly_move-clause-answer
 unfolding answer_of side_of run other
-returns c = record {
-  words = c.friendly_move-r.ensures.words;
-  answer = λ threads p play.
-      let w = play.standing.loaded.well_formed in
-      let able = c.has_step.ensures c.args.code.now (end_of p []) play.standing.holds in
-      let next = (c.friendly_move-r.ensures.wins threads p [] (play_pass c.args.code.now c.args.lengths.now c.args.tails.now c.args.masks.now threads c.args.set c.args.shape hostile c.args.m c.args.table.now 49 p [] play c.has_step.result able (ap not c.if-has_step.false))).0 in
-      (hostile_can none, pass_won c.args.set p w (sym able ∙ c.if-has_step.false) (pass_hostile c.args.set p c.friendly_move-r.result next c.if-r.false), refl);
-}
+returns-else-friendly_move-clause-answer c = λ threads p play.
+    let able = c.has_step.ensures c.args.game.now.program.code (end_of p []) play.standing.holds in
+    let next = (c.friendly_move.ensures.wins threads p [] (play_pass c.args.game.now.program.code c.args.game.now.program.lengths c.args.game.now.tails c.args.game.now.masks threads c.args.game.now.set c.args.game.now.shape hostile c.args.m c.args.table.now 49 p [] play c.has_step.result able (ap not c.if-has_step.false))).0 in
+    (hostile_can none, pass_won c.args.game.now.set p play.standing.loaded.well_formed (sym able ∙ c.if-has_step.false) (pass_hostile c.args.game.now.set p c.friendly_move.result next c.if-friendly_move.false), refl)

@@ -1,5 +1,5 @@
 -- `all_new` takes the writes one after the other and marks each. The invariant: what is left decides, beside the marks so far.
-use Rattle.std.proofs.Common.{◌%◌, ◌-◌, ◌≡◌, true, List, length, drop}
+use Rattle.std.proofs.Common.{◌*◌, ◌≡◌, true, List, length, drop}
 use Rattle.spec_file.specs.Frame.{pairs}
 use Rattle.spec_schedules.specs.Lists.{all}
 use Rattle.spec_sc.specs.State.{Event}
@@ -10,8 +10,5 @@ use Rattle.graph_reader.proofs.refusal.all_new.Given as goal
 
 abbrev pub invariant-loop-k : goal.invariant-loop-k
 invariant-loop-k l =
-    (l.k % 2 ≡ 0) × (length l.s ≡ 96) × (all (is_event 6) (events_in (drop l.k (pairs l.line))) ≡ true) × ((rows : List (List Event)) → Seen l.initial.s rows →
-    (now : List (List Event)) × Seen l.s now × (all_new rows (writes_in (pairs l.line)) ≡ all_new now (events_in (drop l.k (pairs l.line)))))
-
-abbrev pub decreases-loop-k : goal.decreases-loop-k
-decreases-loop-k l = l.size - l.k
+    (length l.s ≡ 96) × (all (is_event 6) (events_in (drop (2 * l.k) (pairs l.line))) ≡ true) × ((rows : List (List Event)) → Seen l.initial.s rows →
+    (now : List (List Event)) × Seen l.s now × (all_new rows (writes_in (pairs l.line)) ≡ all_new now (events_in (drop (2 * l.k) (pairs l.line)))))

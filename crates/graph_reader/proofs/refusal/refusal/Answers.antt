@@ -1,87 +1,54 @@
 -- `refusal` asks for 31, 32 and 33 in this order.
-use Rattle.std.proofs.Common.{◌∙◌, sym, arith}
-use borrow.Author.Tests.{not-false}
+use Rattle.std.proofs.Common.{◌∙◌, sym, ap, arith}
+use Rattle.file_lines.specs.Numbers.{unless_zero}
 use Rattle.spec_file.specs.Frame.{pairs}
 use Rattle.graph_reader.proofs.HeldRefusal.{refused_kind, refused_range, refused_early, passes_read, by_writes}
 use Rattle.graph_reader.proofs.Ranks.{is_read_lem, not_read, events_six}
 use Rattle.spec_judge.proofs.LineRanges.{write_shape, write_range}
+use Rattle.graph_reader.proofs.refusal.refusal.Goals.{then-b-eq64-via-then-b-eq64, then-b-eq64-via-else-b-eq64+then-all_new}
 use Rattle.graph_reader.proofs.refusal.refusal.Goals as goal
 
 pub returns-then-not-known : goal.returns-then-not-known
 returns-then-not-known c =
-    let args = c.args in
-    let known = c.known in
-    λ r held. sym (refused_kind args.n (pairs args.line.now) args.s r held (sym known.ensures ∙ c.if-not-known.true))
-
-pub in_range-requires : goal.in_range-requires
-in_range-requires c = (c.requires.0, (sym c.known.ensures ∙ c.if-not-known.false))
+    λ r held. ap unless_zero (sym (refused_kind c.args.n (pairs c.args.line.now) c.args.s r held (sym c.known.ensures ∙ c.if-not-known.true)))
 
 pub returns-then-not-in_range : goal.returns-then-not-in_range
 returns-then-not-in_range c =
-    let args = c.args in
-    let known = c.known in
-    let if1 = c.if-not-known in
-    let in-range = c.in_range in
-    λ r held. sym (refused_range args.n (pairs args.line.now) args.s r held (sym known.ensures ∙ not-false _ if1.false-raw) (sym in-range.ensures ∙ c.if-not-in_range.true))
+    let known = sym c.known.ensures ∙ c.if-not-known.false in
+    λ r held. ap unless_zero (sym (refused_range c.args.n (pairs c.args.line.now) c.args.s r held known (sym c.in_range.ensures ∙ c.if-not-in_range.true)))
 
 pub returns-then-k-s : goal.returns-then-k-s
 returns-then-k-s c =
-    let args = c.args in
-    let known = c.known in
-    let if1 = c.if-not-known in
-    let in-range = c.in_range in
-    let if2 = c.if-not-in_range in
-    let rank = c.rank-k in
-    λ r held. sym (refused_early args.n (pairs args.line.now) args.s r held (sym known.ensures ∙ not-false _ if1.false-raw) (sym in-range.ensures ∙ not-false _ if2.false-raw) rank.result rank.ensures c.if-k-s.true)
-
-pub returns-then-b-eq64 : goal.returns-then-b-eq64
-returns-then-b-eq64 c =
-    let args = c.args in
-    let known = c.known in
-    let if1 = c.if-not-known in
-    let in-range = c.in_range in
-    let if2 = c.if-not-in_range in
-    let rank = c.rank-k in
-    let if3 = c.if-k-s in
-    let field = c.field-b in
-    λ r held. sym (passes_read args.n (pairs args.line.now) args.s r held (sym known.ensures ∙ not-false _ if1.false-raw) (sym in-range.ensures ∙ not-false _ if2.false-raw) rank.result rank.ensures if3.false (is_read_lem (pairs args.line.now) field.result field.ensures.same c.if-b-eq64.true))
+    let known = sym c.known.ensures ∙ c.if-not-known.false in
+    let range = sym c.in_range.ensures ∙ c.if-not-in_range.false in
+    λ r held. ap unless_zero (sym (refused_early c.args.n (pairs c.args.line.now) c.args.s r held known range c.rank-k.result c.rank-k.ensures c.if-k-s.true))
 
 pub all_new-requires : goal.all_new-requires
 all_new-requires c =
-    let pre = c.requires in
-    let args = c.args in
-    let known = c.known in
-    let if1 = c.if-not-known in
-    let in-range = c.in_range in
-    let if2 = c.if-not-in_range in
-    let field = c.field-b in
-    let if4 = c.if-b-eq64 in
-    (pre.0, omega (arith, pre.0, (write_shape (pairs args.line.now) (sym known.ensures ∙ not-false _ if1.false-raw) (not_read (pairs args.line.now) field.result field.ensures.same if4.false)).2), events_six args.n pre.1 _ (write_range args.n pre.1 (pairs args.line.now) (sym known.ensures ∙ not-false _ if1.false-raw) (sym in-range.ensures ∙ not-false _ if2.false-raw) (not_read (pairs args.line.now) field.result field.ensures.same if4.false)).2)
+    let f = pairs c.args.line.now in
+    let known = sym c.known.ensures ∙ c.if-not-known.false in
+    let kind = not_read f c.field-b.result c.field-b.ensures.same c.if-b-eq64.false in
+    let range = write_range c.args.n c.requires.1 f known (sym c.in_range.ensures ∙ c.if-not-in_range.false) kind in
+    (c.requires.0, omega (arith, c.requires.0, (write_shape f known kind).2), events_six c.args.n c.requires.1 _ range.2)
 
-pub returns-then-all_new : goal.returns-then-all_new
-returns-then-all_new c =
-    let args = c.args in
-    let known = c.known in
-    let if1 = c.if-not-known in
-    let in-range = c.in_range in
-    let if2 = c.if-not-in_range in
-    let rank = c.rank-k in
-    let if3 = c.if-k-s in
-    let field = c.field-b in
-    let if4 = c.if-b-eq64 in
-    let all_new = c.all_new in
-    λ r held. sym (by_writes args.n (pairs args.line.now) args.s r held (sym known.ensures ∙ not-false _ if1.false-raw) (sym in-range.ensures ∙ not-false _ if2.false-raw) rank.result rank.ensures if3.false (not_read (pairs args.line.now) field.result field.ensures.same if4.false) all_new.result (all_new.ensures _ held.seen) ∙ rw c.if-all_new.true)
+pub returns-then-b-eq64 : goal.returns-then-b-eq64
+returns-then-b-eq64 c =
+    let f = pairs c.args.line.now in
+    let known = sym c.known.ensures ∙ c.if-not-known.false in
+    let range = sym c.in_range.ensures ∙ c.if-not-in_range.false in
+    λ r held. ap unless_zero {x = 0} (sym (elim c.then-b-eq64.branch [
+      | then-b-eq64-via-then-b-eq64 w ↦
+          passes_read c.args.n f c.args.s r held known range c.rank-k.result c.rank-k.ensures c.if-k-s.false (is_read_lem f c.field-b.result c.field-b.ensures.same w.if-b-eq64.true)
+      | then-b-eq64-via-else-b-eq64+then-all_new w ↦
+          by_writes c.args.n f c.args.s r held known range c.rank-k.result c.rank-k.ensures c.if-k-s.false
+          (not_read f c.field-b.result c.field-b.ensures.same w.if-b-eq64.false) w.all_new.result (w.all_new.ensures _ held.seen) ∙ rw w.if-all_new.true
+    ]))
 
 pub returns : goal.returns
 returns c =
-    let args = c.args in
-    let known = c.known in
-    let if1 = c.if-not-known in
-    let in-range = c.in_range in
-    let if2 = c.if-not-in_range in
-    let rank = c.rank-k in
-    let if3 = c.if-k-s in
-    let field = c.field-b in
-    let if4 = c.if-b-eq64 in
-    let all_new = c.all_new in
-    λ r held. sym (by_writes args.n (pairs args.line.now) args.s r held (sym known.ensures ∙ not-false _ if1.false-raw) (sym in-range.ensures ∙ not-false _ if2.false-raw) rank.result rank.ensures if3.false (not_read (pairs args.line.now) field.result field.ensures.same if4.false) all_new.result (all_new.ensures _ held.seen) ∙ rw c.if-all_new.false)
+    let f = pairs c.args.line.now in
+    let known = sym c.known.ensures ∙ c.if-not-known.false in
+    let range = sym c.in_range.ensures ∙ c.if-not-in_range.false in
+    let kind = not_read f c.field-b.result c.field-b.ensures.same c.if-b-eq64.false in
+    λ r held. ap unless_zero {x = 33} (sym (by_writes c.args.n f c.args.s r held known range c.rank-k.result c.rank-k.ensures c.if-k-s.false kind
+    c.all_new.result (c.all_new.ensures _ held.seen) ∙ rw c.if-all_new.false))

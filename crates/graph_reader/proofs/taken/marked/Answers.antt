@@ -1,4 +1,4 @@
-use Rattle.std.proofs.Common.{rules, ◌*◌, ◌+◌, refl, ◌∙◌, sym, arith, length-set}
+use Rattle.std.proofs.Common.{rules, ◌*◌, ◌+◌, ◌<◌, refl, ◌∙◌, sym, true, arith, length, length-set}
 use Rattle.spec_file.specs.Frame.{pairs}
 use Rattle.spec_judge.specs.Reading.{writes_in}
 use Rattle.graph_reader.specs.Held.{marked_by}
@@ -8,39 +8,27 @@ use Rattle.graph_reader.proofs.taken.marked.Goals as goal
 
 pub loop-k-init : goal.loop-k-init
 unfolding writes_in
-loop-k-init c = (search rules, search rules, c.requires.2, refl)
+loop-k-init c = (search rules, c.requires.2, refl)
 
-pub overflow_add-k : goal.overflow_add-k
-overflow_add-k c = omega (arith, c.loop-k.invariant.0, c.requires.1)
-
-pub overflow_mul-e : goal.overflow_mul-e
-overflow_mul-e c = omega (arith, c.field-t.ensures.small)
-
-pub overflow_add-e : goal.overflow_add-e
-overflow_add-e c = omega (arith, c.field-t.ensures.small, c.field-i.ensures.small)
-
-pub bounds-s-e : goal.bounds-s-e
-bounds-s-e c =
-    let pre = c.requires in
-    let args = c.args in
-    let loop = c.loop-k in
-    let field = c.field-t in
-    let n = iteration_named (pairs args.line.now) loop.k field.result c.field-i.result (omega (arith, loop.invariant.0, pre.0, pre.1)) field.ensures.same c.field-i.ensures.same loop.invariant.2 in omega (arith, n.0.0, n.0.1, loop.invariant.1)
-
-pub overflow_add-k-in-loop-k : goal.overflow_add-k-in-loop-k
-overflow_add-k-in-loop-k c = omega (arith, c.loop-k.invariant.0, c.requires.1)
-
-pub loop-k-smaller : goal.loop-k-smaller
-loop-k-smaller c = omega (arith, c.loop-k.invariant.0, c.requires.1)
+pub bounds-s-field : goal.bounds-s-field
+bounds-s-field c =
+    let f = pairs c.args.line.now in
+    let inside : 2 * c.loop-k.k + 1 < length f = omega (arith, c.requires) in
+    let named = iteration_named f c.loop-k.k c.field.result c.field-in-loop-k.result inside c.field.ensures.same c.field-in-loop-k.ensures.same c.loop-k.invariant.1 in
+    omega (arith, named.0.0, named.0.1)
 
 pub loop-k-preserved : goal.loop-k-preserved
 loop-k-preserved c =
-    let pre = c.requires in
-    let args = c.args in
-    let loop = c.loop-k in
-    let field = c.field-t in
-    (search rules, length-set loop.s (field.result * 16 + c.field-i.result) 1 ∙ loop.invariant.1, (iteration_named (pairs args.line.now) loop.k field.result c.field-i.result (omega (arith, loop.invariant.0, pre.0, pre.1)) field.ensures.same c.field-i.ensures.same loop.invariant.2).1, loop.invariant.3 ∙ iteration_marked (pairs args.line.now) loop.k field.result c.field-i.result (omega (arith, loop.invariant.0, pre.0, pre.1)) field.ensures.same c.field-i.ensures.same loop.s)
+    let f = pairs c.args.line.now in
+    let l = c.loop-k in
+    let t = c.field.result in
+    let i = c.field-in-loop-k.result in
+    let inside : 2 * c.loop-k.k + 1 < length f = omega (arith, c.requires) in (
+      length-set l.s (t * 16 + i) true ∙ l.invariant.0,
+      (iteration_named f l.k t i inside c.field.ensures.same c.field-in-loop-k.ensures.same l.invariant.1).1,
+      l.invariant.2 ∙ iteration_marked f l.k t i inside c.field.ensures.same c.field-in-loop-k.ensures.same l.s,
+    )
 
 pub returns : goal.returns
 unfolding marked_by
-returns c = sym (c.loop-k.invariant.3 ∙ rw (no_event (pairs c.args.line.now) c.loop-k.k (omega (arith, c.requires.0))))
+returns c = sym (c.loop-k.invariant.2 ∙ rw (no_event (pairs c.args.line.now) c.loop-k.k (omega (arith, c.requires.0))))

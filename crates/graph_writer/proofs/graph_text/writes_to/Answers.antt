@@ -5,8 +5,8 @@ use Rattle.graph_writer.proofs.graph_text.writes_to.Goals as goal
 
 pub returns-then-log-row : goal.returns-then-log-row
 unfolding note_at
-returns-then-log-row c = rw (ne_eqb _ _ c.if-log-row.true)
+returns-then-log-row c = rw (eq-eqb _ _ c.if-log-row.true)
 
-pub returns : goal.returns
+pub returns-else-log-row : goal.returns-else-log-row
 unfolding note_at
-returns c = rw (eq-eqb _ _ c.if-log-row.false)
+returns-else-log-row c = rw (ne_eqb _ _ c.if-log-row.false)

@@ -1,71 +1,58 @@
 -- `judge` refuses in order, then hands over what the judge finds.
-use Rattle.std.proofs.Common.{rules, ◌≡◌, length}
-use borrow.Author.Tests.{not-true, not-false}
+use Rattle.std.proofs.Common.{rules, ◌≡◌, arith, length}
+use Rattle.std.proofs.lemmas.Result.{err_from_is_err_and}
 use Rattle.file_decoder.specs.Compiled.{program_of}
 use Rattle.machine.proofs.HeldStart.{starting_compiled}
-use Rattle.judge.proofs.CallAnswer.{says_refused, says_no, says_yes, call_refused, call_loaded, call_few, call_short, call_line, call_read, call_no, call_yes}
+use Rattle.judge.proofs.CallAnswer.{says_refused, says_no, says_yes, call_refused, call_loaded, call_few, call_short, call_line, call_no, call_yes}
 use Rattle.judge.proofs.answering.judge.Goals as goal
 
+pub returns-in_err-p : goal.returns-in_err-p
+returns-in_err-p c =
+    let p = err_from_is_err_and c.from_residual.result c.from_residual.ensures.1 in
+    let r = c.in_err-p.field-0.0 in
+    rw (p.1, p.2) (says_refused r.number r.place c.args.out.now (call_refused c.args.file.now c.args.text.now (length c.args.out.now) r c.in_err-p.ensures))
+
 pub returns-then-out-lt-STEPS : goal.returns-then-out-lt-STEPS
-returns-then-out-lt-STEPS c =
-    let args = c.args in
-    let decode = c.decode-a in
-    says_refused 22 0 args.out.now (call_short args.file.now args.text.now decode.result decode.ensures (length args.out.now) c.in-Accepted.is c.if-out-lt-STEPS.true)
+returns-then-out-lt-STEPS c = says_refused 22 0 c.args.out.now (call_short c.args.file.now c.args.text.now (length c.args.out.now) c.in_ok-p.p c.in_ok-p.ensures c.if-out-lt-STEPS.true)
 
-pub read_graph-t-requires : goal.read_graph-t-requires
-read_graph-t-requires c =
-    let args = c.args in
-    let decode = c.decode-a in
-    call_few args.file.now args.text.now decode.result decode.ensures (length args.out.now) c.in-Accepted.is
+pub read_graph-requires : goal.read_graph-requires
+read_graph-requires c = call_few c.args.file.now c.args.text.now (length c.args.out.now) c.in_ok-p.p c.in_ok-p.ensures
 
-pub judged-j-requires : goal.judged-j-requires
-judged-j-requires c =
-    let args = c.args in
-    let decode = c.decode-a in
-    let if1 = c.if-out-lt-STEPS in
-    let read-graph = c.read_graph-t in
-    let v = (call_read args.file.now args.text.now decode.result decode.ensures (length args.out.now) c.in-Accepted.is if1.false read-graph.result.verdict read-graph.result.table read-graph.ensures c.in-Passed.is) in (program_of decode.result.program, args.text.now, v.0, call_loaded args.file.now args.text.now decode.result decode.ensures (length args.out.now) c.in-Accepted.is, starting_compiled decode.result.program, v.1, v.2)
+pub returns-in_err-table : goal.returns-in_err-table
+returns-in_err-table c =
+    let p = err_from_is_err_and c.from_residual-in_err-table.result c.from_residual-in_err-table.ensures.1 in
+    let r = c.in_err-table.field-0.0 in
+    rw (p.1, p.2) (says_refused r.number r.place c.args.out.now (call_line c.args.file.now c.args.text.now (length c.args.out.now) c.in_ok-p.p c.in_ok-p.ensures c.if-out-lt-STEPS.false r c.in_err-table.ensures))
 
-pub returns-then-not-j : goal.returns-then-not-j
-returns-then-not-j c =
-    let args = c.args in
-    let decode = c.decode-a in
-    let if1 = c.if-out-lt-STEPS in
-    let read-graph = c.read_graph-t in
-    let judged = c.judged-j in
-    let v = (call_read args.file.now args.text.now decode.result decode.ensures (length args.out.now) c.in-Accepted.is if1.false read-graph.result.verdict read-graph.result.table read-graph.ensures c.in-Passed.is) in says_no args.out.now (call_no args.file.now args.text.now decode.result decode.ensures (length args.out.now) c.in-Accepted.is if1.false v.0 v.1 judged.result.yes judged.result.schedule judged.result.steps (judged.ensures (program_of decode.result.program) args.text.now v.0 (call_loaded args.file.now args.text.now decode.result decode.ensures (length args.out.now) c.in-Accepted.is) (starting_compiled decode.result.program) v.1 v.2) (not-true _ c.if-not-j.true))
+pub judged-requires : goal.judged-requires
+judged-requires c =
+    let p = c.in_ok-p.p in
+    let g = c.in_ok-table.ensures in
+    (program_of p, c.args.text.now, g.0, call_loaded c.args.file.now c.args.text.now (length c.args.out.now) p c.in_ok-p.ensures, starting_compiled p, g.1, g.2)
 
-pub put-requires : goal.put-requires
-put-requires c =
-    let args = c.args in
-    let decode = c.decode-a in
-    let if1 = c.if-out-lt-STEPS in
-    let read-graph = c.read_graph-t in
-    let judged = c.judged-j in
-    let if2 = c.if-not-j in
-    let v = (call_read args.file.now args.text.now decode.result decode.ensures (length args.out.now) c.in-Accepted.is if1.false read-graph.result.verdict read-graph.result.table read-graph.ensures c.in-Passed.is) in ((call_yes args.file.now args.text.now decode.result decode.ensures (length args.out.now) c.in-Accepted.is if1.false v.0 v.1 judged.result.yes judged.result.schedule judged.result.steps (judged.ensures (program_of decode.result.program) args.text.now v.0 (call_loaded args.file.now args.text.now decode.result decode.ensures (length args.out.now) c.in-Accepted.is) (starting_compiled decode.result.program) v.1 v.2) (not-false _ if2.false)).1, if1.false)
+pub returns-in_default : goal.returns-in_default
+returns-in_default c =
+    let p = c.in_ok-p.p in
+    let g = c.in_ok-table.ensures in
+    let l = call_loaded c.args.file.now c.args.text.now (length c.args.out.now) p c.in_ok-p.ensures in
+    says_no c.args.out.now (call_no c.args.file.now c.args.text.now (length c.args.out.now) p c.in_ok-p.ensures c.if-out-lt-STEPS.false g.0 g.1
+    (c.in_default.ensures (program_of p) c.args.text.now g.0 l (starting_compiled p) g.1 g.2))
 
-pub returns-in-Refused : goal.returns-in-Refused
-returns-in-Refused c =
-    let args = c.args in
-    let decode = c.decode-a in
-    says_refused _ _ args.out.now (call_refused args.file.now args.text.now decode.result decode.ensures (length args.out.now) _ _ c.in-Refused.is)
+pub put_front-requires : goal.put_front-requires
+put_front-requires c =
+    let p = c.in_ok-p.p in
+    let g = c.in_ok-table.ensures in
+    let l = call_loaded c.args.file.now c.args.text.now (length c.args.out.now) p c.in_ok-p.ensures in
+    let few = (c.in-Some.ensures (program_of p) c.args.text.now g.0 l (starting_compiled p) g.1 g.2).1 in
+    let z : length c.in-Some.s.schedule ≡ 24 = search rules in
+    (omega arith, omega (arith, c.if-out-lt-STEPS.false))
 
-pub returns-in-Refused-u : goal.returns-in-Refused-u
-returns-in-Refused-u c =
-    let args = c.args in
-    let decode = c.decode-a in
-    let if1 = c.if-out-lt-STEPS in
-    let read-graph = c.read_graph-t in
-    says_refused _ _ args.out.now (call_line args.file.now args.text.now decode.result decode.ensures (length args.out.now) c.in-Accepted.is if1.false read-graph.result.verdict read-graph.result.table _ _ read-graph.ensures c.in-Refused-u.is)
-
-pub returns-else-not-j : goal.returns-else-not-j
-returns-else-not-j c =
-    let args = c.args in
-    let decode = c.decode-a in
-    let if1 = c.if-out-lt-STEPS in
-    let read-graph = c.read_graph-t in
-    let judged = c.judged-j in
-    let if2 = c.if-not-j in
-    let put = c.put in
-    let v = (call_read args.file.now args.text.now decode.result decode.ensures (length args.out.now) c.in-Accepted.is if1.false read-graph.result.verdict read-graph.result.table read-graph.ensures c.in-Passed.is) in let y = (call_yes args.file.now args.text.now decode.result decode.ensures (length args.out.now) c.in-Accepted.is if1.false v.0 v.1 judged.result.yes judged.result.schedule judged.result.steps (judged.ensures (program_of decode.result.program) args.text.now v.0 (call_loaded args.file.now args.text.now decode.result decode.ensures (length args.out.now) c.in-Accepted.is) (starting_compiled decode.result.program) v.1 v.2) (not-false _ if2.false)) in let z : length judged.result.schedule ≡ 24 = search rules in says_yes judged.result.steps judged.result.schedule args.out.now _ y.0 y.1 z put.ensures
+pub returns : goal.returns
+returns c =
+    let p = c.in_ok-p.p in
+    let g = c.in_ok-table.ensures in
+    let l = call_loaded c.args.file.now c.args.text.now (length c.args.out.now) p c.in_ok-p.ensures in
+    let y = call_yes c.args.file.now c.args.text.now (length c.args.out.now) p c.in_ok-p.ensures c.if-out-lt-STEPS.false g.0 g.1 c.in-Some.s
+    (c.in-Some.ensures (program_of p) c.args.text.now g.0 l (starting_compiled p) g.1 g.2) in
+    let z : length c.in-Some.s.schedule ≡ 24 = search rules in
+    says_yes c.in-Some.s.steps c.in-Some.s.schedule c.args.out.now _ y.0 y.1 z c.put_front.ensures

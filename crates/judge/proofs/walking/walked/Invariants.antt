@@ -1,5 +1,5 @@
 -- `walked` takes the chosen thread again and again. The invariant: what has been walked and what is left make the walk.
-use Rattle.std.proofs.Common.{ℕ, ◌≤◌, ◌-◌, ◌≡◌, length, get_or}
+use Rattle.std.proofs.Common.{ℕ, ◌≤◌, ◌≡◌, length, get_or}
 use Rattle.spec_file.specs.Program.{Program, initial}
 use Rattle.spec_sc.specs.Graph.{Graph}
 use Rattle.judge_next.specs.HeldWalk.{Given}
@@ -8,8 +8,6 @@ use Rattle.judge.proofs.walking.walked.Given as goal
 
 abbrev pub invariant-loop-k : goal.invariant-loop-k
 invariant-loop-k it =
-    (length it.made ≡ 576) × (length it.counts ≡ 8) × (length it.schedule ≡ 24) × ((l : ℕ) → get_or it.counts l 0 ≤ it.k)
-    × ((p : Program) (g : Graph) → Given it.code it.lengths it.threads it.pairs it.places p g → it.initial.m.memory ≡ initial p → Progress it.code it.lengths p g it.m it.made it.counts it.schedule it.k)
-
-abbrev pub decreases-loop-k : goal.decreases-loop-k
-decreases-loop-k l = 24 - l.k
+    (length it.made.pairs ≡ 576) × (length it.made.counts ≡ 8) × (length it.schedule ≡ 24) × ((l : ℕ) → get_or it.made.counts l 0 ≤ it.k)
+    × ((p : Program) (g : Graph) → Given it.program.code it.program.lengths it.program.threads it.pairs it.places p g → it.initial.machine.memory ≡ initial p
+    → Progress it.program.code it.program.lengths p g it.machine it.made.pairs it.made.counts it.schedule it.k)

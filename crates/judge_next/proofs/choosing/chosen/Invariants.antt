@@ -1,5 +1,5 @@
 -- `chosen` asks one thread after the other. The invariant: none so far fits.
-use Rattle.std.proofs.Common.{ℕ, ◌≤◌, ◌<◌, ◌-◌, ◌≡◌, false}
+use Rattle.std.proofs.Common.{ℕ, ◌<◌, ◌≡◌, false}
 use Rattle.spec_file.specs.Program.{Program}
 use Rattle.spec_schedules.specs.Order.{Schedule}
 use Rattle.spec_schedules.specs.System.{run}
@@ -13,8 +13,5 @@ use Rattle.judge_next.proofs.choosing.chosen.Given as goal
 
 abbrev pub invariant-loop-t : goal.invariant-loop-t
 invariant-loop-t l =
-    (l.t ≤ 6) × ((p : Program) (g : Graph) (s : Schedule) → Walking l.code l.lengths l.threads l.pairs l.places p g l.m l.counts s →
-    (u : ℕ) → u < l.t → fits g (location_of p (final_values p g)) (run SC (start p) s) u ≡ false)
-
-abbrev pub decreases-loop-t : goal.decreases-loop-t
-decreases-loop-t l = 6 - l.t
+    (p : Program) (g : Graph) (s : Schedule) → Walking l.program.code l.program.lengths l.program.threads l.pairs l.places p g l.m l.counts s →
+    (u : ℕ) → u < l.t → fits g (location_of p (final_values p g)) (run SC (start p) s) u ≡ false

@@ -1,5 +1,5 @@
 -- `in_round` meets one access after the other. The invariant: those before the next are met.
-use Rattle.std.proofs.Common.{◌-◌, ◌*◌, ◌≡◌, length}
+use Rattle.std.proofs.Common.{◌≡◌, length}
 use Rattle.spec_file.specs.Program.{Program}
 use Rattle.machine.specs.Held.{Loaded}
 use Rattle.judge_values.specs.HeldRounds.{Opened}
@@ -8,7 +8,4 @@ use Rattle.judge_values.proofs.valuing.in_round.Given as goal
 
 abbrev pub invariant-loop-k : goal.invariant-loop-k
 invariant-loop-k l =
-    (length l.places ≡ 96) × (length l.left ≡ 96) × ((p : Program) → Loaded l.code l.lengths l.threads p → Opened l.code l.lengths p l.opened → Progress l.code l.lengths p l.values l.thread l.k l.places l.left)
-
-abbrev pub decreases-loop-k : goal.decreases-loop-k
-decreases-loop-k l = 16 * l.threads - l.k
+    (length l.places ≡ 96) × (length l.left ≡ 96) × ((p : Program) → Loaded l.program.code l.program.lengths l.program.threads p → Opened l.program.code l.program.lengths p l.opened → Progress l.program.code l.program.lengths p l.values l.thread l.k l.places l.left)

@@ -1,5 +1,5 @@
 -- `places` makes a round fewer than the program has accesses, or fewer still where one changes no value. The invariant: the table holds the values of the rounds made.
-use Rattle.std.proofs.Common.{ℕ, ◌≤◌, ◌-◌, ◌≡◌, List}
+use Rattle.std.proofs.Common.{ℕ, ◌≤◌, ◌-◌, ◌≡◌, List, max}
 use Rattle.spec_file.specs.Program.{Program, initial}
 use Rattle.spec_sc.specs.State.{Event}
 use Rattle.spec_sc.specs.Graph.{Graph}
@@ -13,8 +13,5 @@ use Rattle.judge_values.proofs.valuing.places.Given as goal
 
 abbrev pub invariant-loop-k : goal.invariant-loop-k
 invariant-loop-k l =
-    (l.k ≤ l.accesses - 1) × ((p : Program) (text counts : List ℕ) (g : Graph) → Loaded l.code l.lengths l.threads p → l.starting ≡ initial p → read_graph l.threads text ≡ parsed g → Tabled l.pairs counts g →
-    (e : Event) → Named l.threads e → values_in l.vs e ≡ values p g l.k e)
-
-abbrev pub decreases-loop-k : goal.decreases-loop-k
-decreases-loop-k l = l.accesses - l.k
+    (l.k ≤ max 1 l.accesses) × ((p : Program) (text counts : List ℕ) (g : Graph) → Loaded l.program.code l.program.lengths l.program.threads p → l.program.starting ≡ initial p → read_graph l.program.threads text ≡ parsed g → Tabled l.pairs counts g →
+    (e : Event) → Named l.program.threads e → values_in l.vs e ≡ values p g (l.k - 1) e)

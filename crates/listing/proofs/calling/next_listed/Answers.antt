@@ -8,7 +8,9 @@ use Rattle.listing_cursor.specs.ListRows.{remaining}
 use Rattle.spec_calls.proofs.Answered.{answer_short}
 use Rattle.listing_model.specs.ModelOf.{model_of}
 use Rattle.listing_model.proofs.ModelLaws.{need_48}
+use Rattle.std.specs.Prelude.{Ok}
 use Rattle.listing.specs.AnswerOf.{list_answer_of}
+use Rattle.listing.proofs.FileCalls.{found_answer}
 use Rattle.listing.proofs.calling.next_listed.Goals as goal
 
 pub returns-then-out-need : goal.returns-then-out-need
@@ -45,4 +47,4 @@ returns c =
     let next_of = c.next_of in
     let long : short M.need out ≡ false = le-ltb (length out) M.need (subst (λ (n : ℕ). n ≤ length out) c.width-need.ensures c.if-out-need.false) in
     let e : answer_to false o ≡ answer_to (short M.need out) o = ap (λ (b : Bool). answer_to b o) (sym long) in
-    record { answer = next_of.ensures.answer ∙ ap list_answer_of e; output = next_of.ensures.output ∙ ap (λ (a : Answer). content a out) e }
+    record { answer = ap Ok next_of.ensures.answer ∙ found_answer o ∙ ap list_answer_of e; output = next_of.ensures.output ∙ ap (λ (a : Answer). content a out) e }

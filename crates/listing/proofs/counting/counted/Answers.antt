@@ -1,6 +1,5 @@
-use Rattle.std.proofs.Common.{ℕ, ◌+◌, ◌*◌, ◌≤◌, false, length, sym, ◌∙◌, subst, arith}
+use Rattle.std.proofs.Common.{ℕ, ◌+◌, ◌*◌, ◌≤◌, length, sym, ◌∙◌, subst, arith}
 use Rattle.file_decoder.specs.Compiled.{program_of}
-use Rattle.spec_model.specs.Model.{failing}
 use Rattle.listing_cursor.specs.Rows.{Shown}
 use Rattle.listing_cursor.proofs.CountedRows.{counting_64, counting_rows, counting_less}
 use Rattle.listing_model.specs.ModelOf.{model_of}
@@ -15,8 +14,8 @@ loop-model-init c =
 pub next_page-page-requires : goal.next_page-page-requires
 next_page-page-requires c = c.requires.0
 
-pub failing_in-requires : goal.failing_in-requires
-failing_in-requires c =
+pub failing_in-failing-requires : goal.failing_in-failing-requires
+failing_in-failing-requires c =
     let args = c.args in
     let width = c.width-need in
     let page = c.next_page-page in
@@ -37,10 +36,10 @@ loop-model-preserved c =
     let M = model_of args.model in
     let loop = c.loop-model in
     let page = c.next_page-page in
-    let failing-in = c.failing_in in
-    wrapped_next M (program_of args.program) loop.cursor loop.rows loop.listed loop.failing loop.invariant _ page.result page.ensures failing-in.result
+    let failing-in = c.failing_in-failing in
+    wrapped_next M (program_of args.program) loop.cursor loop.rows loop.tally.listed loop.tally.failing loop.invariant _ page.result page.ensures failing-in.result
     (λ fails ss held s. failing-in.ensures fails ss held (subst (λ (n : ℕ). Shown n fails ss held page.new.out page.result.rows) (sym c.width-need.ensures) s))
-    _ _ c.wrapping_add_usize-listed.ensures.value c.wrapping_add_usize-failing.ensures.value
+    _ _ c.added-tally.ensures.0 c.added-tally.ensures.1
 
 pub returns : goal.returns
 returns c =

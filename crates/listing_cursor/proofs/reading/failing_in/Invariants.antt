@@ -1,5 +1,5 @@
 -- `failing_in` reads one row's second byte after another. The invariant: so many of the rows read fail.
-use Rattle.std.proofs.Common.{ℕ, ◌-◌, ◌≤◌, ◌≡◌, Bool, List, length, take}
+use Rattle.std.proofs.Common.{ℕ, ◌≤◌, ◌≡◌, Bool, List, length, take}
 use Rattle.spec_schedules.specs.Lists.{filter}
 use Rattle.spec_schedules.specs.Order.{Schedule}
 use Rattle.listing_cursor.specs.Rows.{Shown}
@@ -12,6 +12,3 @@ Fails rows width n f k =
 
 abbrev pub invariant-loop-k : goal.invariant-loop-k
 invariant-loop-k l = Fails l.rows l.width l.n l.failing l.k
-
-abbrev pub decreases-loop-k : goal.decreases-loop-k
-decreases-loop-k l = l.n - l.k

@@ -17,13 +17,13 @@ away-by p false e = few_none p (ltb-false 16 (all_accesses p.threads) e)
 
 pub too_many-requires : goal.too_many-requires
 too_many-requires c =
-    (program_of c.args.program, loaded_compiled c.args.program c.requires)
+    (program_of c.args.program.now, loaded_compiled c.args.program.now c.requires)
 
 pub returns-in-Sequential : goal.returns-in-Sequential
-returns-in-Sequential c = subst (λ (m : Model). (model_of m).away (program_of c.args.program) ≡ none) (sym c.in-Sequential.is) refl
+returns-in-Sequential c = subst (λ (m : Model). (model_of m).away (program_of c.args.program.now) ≡ none) (sym c.in-Sequential.is) refl
 
 pub returns-in-TotalStoreOrder : goal.returns-in-TotalStoreOrder
 returns-in-TotalStoreOrder c =
-    let p = program_of c.args.program in
+    let p = program_of c.args.program.now in
     subst (λ (m : Model). (model_of m).away p ≡ cond c.too_many.result (some (41, 0)) none) (sym c.in-TotalStoreOrder.is)
-    (away-by p c.too_many.result (sym (c.too_many.ensures p (loaded_compiled c.args.program c.requires))))
+    (away-by p c.too_many.result (sym (c.too_many.ensures p (loaded_compiled c.args.program.now c.requires))))

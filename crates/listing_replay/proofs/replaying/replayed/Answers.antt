@@ -26,7 +26,7 @@ pub returns-in-Sequential : goal.returns-in-Sequential
 returns-in-Sequential c =
     let p = c.args.program in
     let run = c.replayed-r in
-    let r : Replay = record { verdict = run.result.verdict; log = run.result.log; notes = run.result.steps } in
+    let r : Replay = record { end = run.result.end; log = run.result.log; notes = run.result.steps } in
     subst (λ (m : Model). Replays m (program_of p) c.args.schedule.now r) (sym c.in-Sequential.is)
     (sequences_replay (program_of p) c.requires.0 c.args.schedule.now p.code p.lengths run.result
     (run.ensures (program_of p) (loaded_compiled p c.requires.0) (starting_compiled p)))
@@ -37,7 +37,7 @@ returns-in-TotalStoreOrder c =
     let a = subst (λ (m : Model). Admitted (model_of m) (program_of p)) c.in-TotalStoreOrder.is c.requires in
     let few = at_most_16 (program_of p) a.1 in
     let run = c.replayed-r-in-TotalStoreOrder in
-    let r : Replay = record { verdict = run.result.verdict; log = run.result.log; notes = run.result.notes } in
+    let r : Replay = record { end = run.result.end; log = run.result.log; notes = run.result.notes } in
     subst (λ (m : Model). Replays m (program_of p) c.args.schedule.now r) (sym c.in-TotalStoreOrder.is)
     (stores_replay (program_of p) a.0 c.args.schedule.now p.code p.lengths few run.result
     (run.ensures (program_of p) (loaded_compiled p a.0) (starting_compiled p) few))

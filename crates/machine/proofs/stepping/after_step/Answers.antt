@@ -32,8 +32,8 @@ settled-k-requires c =
     let pre = c.requires in
     let args = c.args in
     let wide = c.wide-u in
-    let short = subst (λ (v : ℕ). get_or args.lengths.now v 0 ≤ 16) (sym wide.ensures.same) pre.sixteen in
-    let left = subst (λ (v : ℕ). args.thread.at < get_or args.lengths.now v 0) (sym wide.ensures.same) pre.left in
+    let short = subst (λ (v : ℕ). get_or args.program.now.lengths v 0 ≤ 16) (sym wide.ensures.same) pre.sixteen in
+    let left = subst (λ (v : ℕ). args.thread.at < get_or args.program.now.lengths v 0) (sym wide.ensures.same) pre.left in
     (omega (arith, wide.ensures.same, pre.six), short, omega (arith, left))
 
 pub returns : goal.returns
@@ -46,7 +46,7 @@ returns c =
     let wide2 = c.wide-l in record {
       within = search rules;
       step = λ m σ et em held ok near.
-          rw (c.with_value-values.ensures, c.value_behind.ensures) (after_holds args.code.now args.lengths.now m σ args.t wide.result args.thread args.memory accessed-at.result settled.result wide2.result
+          rw (c.with_at-values.ensures, c.choose.ensures) (after_holds args.program.now.code args.program.now.lengths m σ args.t wide.result args.thread args.memory accessed-at.result settled.result wide2.result
           wide.ensures.same wide2.ensures.same
-          (record { left = subst (λ (v : ℕ). args.thread.at < get_or args.lengths.now v 0) (sym wide.ensures.same) pre.left; access = accessed-at.ensures; local = settled.ensures.local; later = settled.ensures.within.0; counted = settled.ensures.within.2 }) et em held ok near);
+          (record { left = subst (λ (v : ℕ). args.thread.at < get_or args.program.now.lengths v 0) (sym wide.ensures.same) pre.left; access = accessed-at.ensures; local = settled.ensures.local; later = settled.ensures.within.0; counted = settled.ensures.within.2 }) et em held ok near);
     }

@@ -8,7 +8,7 @@ pub after_step-a-requires : goal.after_step-a-requires
 after_step-a-requires c =
     let args = c.args in
     let wide = c.wide-u in
-    subst (λ (v : ℕ). ReadyThread args.lengths.now (thread_at args.m v) args.t) (sym wide.ensures.same) c.requires
+    subst (λ (v : ℕ). ReadyThread args.program.now.lengths (thread_at args.m v) args.t) (sym wide.ensures.same) c.requires
 
 pub returns : goal.returns
 returns c =
@@ -16,4 +16,4 @@ returns c =
     let wide = c.wide-u in
     let after-step = c.after_step-a in
     λ σ held ok near.
-    rw c.last_behind-w.ensures (stored_whole args.code.now args.lengths.now args.m args.t wide.result after-step.result wide.ensures.same after-step.ensures.step σ held ok near)
+    rw (c.last_behind.ensures, c.note_of.ensures) (stored_whole args.program.now.code args.program.now.lengths args.m args.t wide.result after-step.result wide.ensures.same after-step.ensures.step σ held ok near)

@@ -1,22 +1,18 @@
 -- An access comes at once, or the end does, or other instructions.
-use Rattle.std.proofs.Common.{◌≡◌, length, sym, refl, ◌∙◌, rules}
+use Rattle.std.proofs.Common.{arith, ◌≡◌, length, sym, refl, ◌∙◌, rules}
 use Rattle.machine_local.proofs.HeldRegisters.{same_four}
 use Rattle.machine_access.proofs.HeldSettling.{loop_ends, loop_stands}
 use Rattle.machine_access.proofs.settling.settled.Goals as goal
+use Rattle.machine_access.proofs.settling.settled.Goals.{then-from-n-via-then-from-n, then-from-n-via-else-from-n+then-is_access}
 
-pub returns-then-is_access : goal.returns-then-is_access
-returns-then-is_access c =
+pub returns-then-from-n-clause-local : goal.returns-then-from-n-clause-local
+returns-then-from-n-clause-local c =
     let args = c.args in
-    let if1 = c.if-from-n in
-    let is-access = c.is_access in
-    record { local = loop_stands args.code.now args.t args.n _ args.from args.registers args.done refl if1.true (sym is-access.ensures ∙ c.if-is_access.true); within = (search rules, search rules, search rules) }
+    elim c.then-from-n.branch [
+      | then-from-n-via-then-from-n w ↦ loop_ends args.code.now args.t args.n _ args.from args.registers args.done refl (omega (arith, w.if-from-n.true)) args.from (omega (arith, w.if-from-n.true))
+      | then-from-n-via-else-from-n+then-is_access w ↦ loop_stands args.code.now args.t args.n _ args.from args.registers args.done refl (omega (arith, w.if-from-n.false)) (sym w.is_access.ensures ∙ w.if-is_access.true)
+    ]
 
-pub returns-then-from-n : goal.returns-then-from-n
-returns-then-from-n c =
-    let settle = c.settle-k in
-    let h : length settle.result.registers ≡ 4 = search rules in record { local = rw (same_four settle.result.registers h) settle.ensures.local; within = settle.ensures.within }
-
-pub returns : goal.returns
-returns c =
-    let args = c.args in
-    record { local = loop_ends args.code.now args.t args.n _ args.from args.registers args.done refl c.if-from-n.false; within = (search rules, search rules, search rules) }
+pub returns-clause-local : goal.returns-clause-local
+returns-clause-local c =
+    let h : length c.settle-k.result.registers ≡ 4 = search rules in rw (same_four c.settle-k.result.registers h) c.settle-k.ensures.local

@@ -4,4 +4,4 @@ use Rattle.machine_local.proofs.own.added.Goals as goal
 
 pub returns : goal.returns
 unfolding sum32 outcome
-returns c = rw (c.passed.ensures, c.with_register.ensures, c.wrapping_add_u32-v.ensures.value, c.value.ensures, c.register_at.ensures, c.wide-k.ensures.same)
+returns c = rw (c.with_at.ensures, c.wrapping_add_u32-v.ensures.value, c.value.ensures, c.register_at.ensures, c.wide-k.ensures.same)

@@ -4,4 +4,4 @@ use Rattle.machine_local.proofs.own.assigned.Goals as goal
 
 pub returns : goal.returns
 unfolding outcome
-returns c = rw (c.passed.ensures, c.with_register.ensures, c.wide.ensures.same, c.value-v.ensures)
+returns c = rw (c.with_at.ensures, c.wide.ensures.same, c.value-v.ensures)

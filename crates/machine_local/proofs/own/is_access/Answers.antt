@@ -1,25 +1,13 @@
--- One line for each of the four first bytes, and one for the others.
-use Rattle.std.proofs.Common.{sym}
-use Rattle.machine_local.proofs.HeldRows.{access_store, access_load, access_fetch_add, access_compare_swap, no_access}
+-- The four first bytes are those from 10 to 13.
+use Rattle.std.proofs.Common.{arith, sym}
+use Rattle.machine_local.proofs.HeldRows.{access_in, access_out}
 use Rattle.machine_local.proofs.own.is_access.Goals as goal
 
-pub returns-then-b-eq16 : goal.returns-then-b-eq16
-returns-then-b-eq16 c = sym (access_store c.args.code.now c.args.row c.requires c.if-b-eq16.true)
+pub returns-in-16-to-19 : goal.returns-in-16-to-19
+returns-in-16-to-19 c = sym (access_in c.args.code.now c.args.row c.requires (omega arith) (omega arith))
 
-pub returns-then-b-eq17 : goal.returns-then-b-eq17
-returns-then-b-eq17 c = sym (access_load c.args.code.now c.args.row c.requires c.if-b-eq17.true)
+pub returns-in_default : goal.returns-in_default
+returns-in_default c = sym (access_out c.args.code.now c.args.row c.requires (λ l u. omega (arith, l, u)))
 
-pub returns-then-b-eq18 : goal.returns-then-b-eq18
-returns-then-b-eq18 c =
-    let pre = c.requires in
-    let args = c.args in
-    sym (access_fetch_add args.code.now args.row (pre) c.if-b-eq18.true)
-
-pub returns-then-b-eq19 : goal.returns-then-b-eq19
-returns-then-b-eq19 c =
-    let pre = c.requires in
-    let args = c.args in
-    sym (access_compare_swap args.code.now args.row (pre) c.if-b-eq19.true)
-
-pub returns : goal.returns
-returns c = sym (no_access c.args.code.now c.args.row c.requires c.if-b-eq16.false c.if-b-eq17.false c.if-b-eq18.false c.if-b-eq19.false)
+pub returns-in_default-2 : goal.returns-in_default-2
+returns-in_default-2 c = sym (access_out c.args.code.now c.args.row c.requires (λ l u. omega (arith, l, u)))

@@ -1,6 +1,6 @@
 -- `gathered` takes one new outcome after the other. The invariant: the rows are the first so many outcomes, the marks are true of the rows, and
 -- those from the number on stand in the output.
-use Rattle.std.proofs.Common.{◌-◌, ◌≤◌, ◌≡◌, length, take, drop}
+use Rattle.std.proofs.Common.{◌≤◌, ◌≡◌, length, take, drop}
 use Rattle.spec_file.specs.Over.{over}
 use Rattle.file_decoder.specs.Compiled.{program_of}
 use Rattle.listing_model.specs.ModelOf.{model_of}
@@ -12,10 +12,9 @@ use Rattle.outcome_states.proofs.Marks.{framed}
 use Rattle.outcome_states.proofs.gathering.gathered.Given as goal
 
 abbrev pub invariant-loop-k : goal.invariant-loop-k
-invariant-loop-k l =
-    (l.k ≤ l.room) × (length l.lent ≡ length l.initial.lent) × (length l.out ≡ length l.initial.out) × (l.k ≤ length (firsts_of (model_of l.model) (program_of l.program)))
-    × Known (model_of l.model) (program_of l.program) (take l.cut l.lent) l.k × Marks l.model (program_of l.program) (framed l.width l.count l.cut l.k) (take l.cut l.lent) l.lent
-    × (l.out ≡ over (outcome_rows (model_of l.model) (program_of l.program) (drop l.from (take l.k (firsts_of (model_of l.model) (program_of l.program))))) l.initial.out)
-
-abbrev pub decreases-loop-k : goal.decreases-loop-k
-decreases-loop-k l = l.room - l.k
+invariant-loop-k l = record {
+  within : l.k ≤ length (firsts_of (model_of l.model) (program_of l.program));
+  known : Known (model_of l.model) (program_of l.program) (take l.frame.cut l.lent) l.k;
+  marks : Marks l.model (program_of l.program) (framed l.frame.width l.frame.slots l.frame.cut l.k) (take l.frame.cut l.lent) l.lent;
+  shown : l.out ≡ over (outcome_rows (model_of l.model) (program_of l.program) (drop l.from (take l.k (firsts_of (model_of l.model) (program_of l.program))))) l.initial.out;
+}

@@ -41,7 +41,7 @@ returns-then-g c =
     let p = program_of a.program in
     let g = c.gathered-g.ensures in
     let r = page_all M p a.from _ a.out.now (is-room) c.gathered-g.result.known g.few g.within (g.all c.if-g.true) in
-    record { count = c.beyond.ensures ∙ r.0; output = g.output ∙ ap (λ (l : List Schedule). over (outcome_rows M p l) a.out.now) r.1; later = c.clear-2.ensures.zeros ∙ ap (λ (n : ℕ). replicate n 0) g.words }
+    record { count = c.saturating_sub.ensures ∙ r.0; output = g.output ∙ ap (λ (l : List Schedule). over (outcome_rows M p l) a.out.now) r.1; later = c.clear-2.ensures.zeros ∙ ap (λ (n : ℕ). replicate n 0) g.words }
 
 pub returns-then-known-limit : goal.returns-then-known-limit
 returns-then-known-limit c =

@@ -1,24 +1,25 @@
 -- `robust` decodes the file.
+use Rattle.std.proofs.Common.{rules, ◌≡◌, ◌∙◌}
 use Rattle.file_decoder.specs.Compiled.{program_of}
 use Rattle.file_decoder.proofs.Decoded.{decoded_refused, decoded_accepted, decoded_well_formed}
 use Rattle.spec_file.specs.Decode.{accepted}
-use Rattle.robust.proofs.Called.{says_on, says_refused}
+use Rattle.robust.proofs.Called.{refusal, says_on, says_refused}
 use Rattle.robust.proofs.robust_call.robust.Goals as goal
 
 pub robust_of-requires : goal.robust_of-requires
-robust_of-requires c =
-    let decode = c.decode-a in
-    decoded_well_formed decode.result c.args.file.now decode.ensures c.in-Accepted.is
+robust_of-requires c = decoded_well_formed c.decode.result c.args.file.now c.decode.ensures c.in_ok-program.program c.in_ok-program.was
 
-pub returns-in-Refused : goal.returns-in-Refused
-returns-in-Refused c =
-    let args = c.args in
-    let decode = c.decode-a in
-    says_refused args.file.now args.out.now _ _ (decoded_refused decode.result args.file.now decode.ensures _ _ c.in-Refused.is)
+pub returns-in_err-program : goal.returns-in_err-program
+returns-in_err-program c =
+    let a = c.args in
+    let r = c.in_err-program.field-0.0 in
+    let reply : c.from_residual.result ≡ refusal r.number r.place = search rules in
+    let whole = says_refused a.file.now a.out.now r.number r.place (decoded_refused c.decode.result a.file.now c.decode.ensures r c.in_err-program.was) in
+    (whole.0, whole.1, reply ∙ whole.2, whole.3)
 
-pub returns-in-Accepted : goal.returns-in-Accepted
-returns-in-Accepted c =
-    let args = c.args in
-    let decode = c.decode-a in
-    says_on args.file.now args.out.now (accepted (program_of decode.result.program))
-    (decoded_accepted decode.result args.file.now decode.ensures c.in-Accepted.is) _ _ (c.robust_of.ensures.answer, c.robust_of.ensures.output)
+pub returns : goal.returns
+returns c =
+    let a = c.args in
+    let p = c.in_ok-program.program in
+    says_on a.file.now a.out.now (accepted (program_of p)) (decoded_accepted c.decode.result a.file.now c.decode.ensures p c.in_ok-program.was) _ _
+    (c.robust_of.ensures.answer, c.robust_of.ensures.output)

@@ -1,6 +1,10 @@
 -- `robust_of` counts the accesses, looks at the output's length, asks whether the code is fenced, and walks the list.
+use Rattle.std.proofs.Common.{length}
 use Rattle.file_decoder.specs.Compiled.{program_of}
 use Rattle.machine.proofs.HeldStart.{loaded_compiled}
+use Rattle.spec_across.proofs.Relaxed.{first_relaxed}
+use Rattle.listing_cursor.specs.Steps.{found_of}
+use Rattle.robust.proofs.Walked.{found_put, found_fits}
 use Rattle.robust.proofs.Called.{answered_41, admitted_few, answered_22, answered_fenced, answered_found}
 use Rattle.robust.proofs.robust_call.robust_of.Goals as goal
 
@@ -31,14 +35,21 @@ returns-then-is_fenced c =
     (c.is_fenced.ensures p (loaded_compiled c.args.program c.requires) c.if-is_fenced.true) in
     record { answer = whole.0; output = whole.1 }
 
-pub walked-requires : goal.walked-requires
-walked-requires c =
+pub first_relaxed-requires : goal.first_relaxed-requires
+first_relaxed-requires c =
     let p = program_of c.args.program in
-    (admitted_few p c.args.out.now _ (c.too_many.ensures p (loaded_compiled c.args.program c.requires)) c.if-too_many.false c.requires, c.if-out-lt48.false)
+    admitted_few p c.args.out.now _ (c.too_many.ensures p (loaded_compiled c.args.program c.requires)) c.if-too_many.false c.requires
+
+pub put_found-requires : goal.put_found-requires
+put_found-requires c =
+    let short = c.first_relaxed.ensures.short in
+    (short, found_fits c.first_relaxed.result (length c.args.out.now) short c.if-out-lt48.false)
 
 pub returns : goal.returns
 returns c =
     let p = program_of c.args.program in
-    let whole = answered_found p c.args.out.now _ (c.too_many.ensures p (loaded_compiled c.args.program c.requires)) c.if-too_many.false
-    c.if-out-lt48.false _ _ (c.walked.ensures.answer, c.walked.ensures.output) in
+    let out = c.args.out.now in
+    let put = c.put_found.ensures in
+    let whole = answered_found p out _ (c.too_many.ensures p (loaded_compiled c.args.program c.requires)) c.if-too_many.false c.if-out-lt48.false _ _
+    (found_put (found_of c.first_relaxed.result) (first_relaxed p) c.first_relaxed.ensures.first out _ c.put_found.result put.steps put.output) in
     record { answer = whole.0; output = whole.1 }

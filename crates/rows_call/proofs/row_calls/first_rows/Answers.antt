@@ -1,36 +1,35 @@
 -- `first_rows` admits the file first.
 use Rattle.std.proofs.Common.{false, sym, ◌∙◌}
 use mathlib.Core.Option.{none}
-use Rattle.file_decoder.specs.Compiled.{program_of}
 use Rattle.spec_schedules.proofs.After.{after_none}
+use Rattle.file_decoder.specs.Compiled.{program_of}
+use Rattle.file_decoder.proofs.Said.{answer_refused, answer_accepted}
+use Rattle.spec_file.specs.Decode.{decode}
+use Rattle.spec_model.specs.OnFile.{admit}
 use Rattle.spec_model.specs.Search.{sought}
 use Rattle.listing_model.specs.ModelOf.{model_of}
 use Rattle.listing_model.proofs.ModelLaws.{model_laws}
-use Rattle.spec_file.specs.Decode.{decode}
-use Rattle.spec_model.specs.OnFile.{admit}
-use Rattle.file_decoder.proofs.Said.{answer_refused, answer_accepted}
-use Rattle.listing_replay.proofs.ListedProgram.{answer_listed}
+use Rattle.listing_replay.proofs.ListedProgram.{passed_on, answer_listed}
 use Rattle.rows_call.proofs.RowsAnswered.{rows_refused, rows_paged}
 use Rattle.rows_call.proofs.row_calls.first_rows.Goals as goal
 
+pub returns-in_err-program : goal.returns-in_err-program
+returns-in_err-program c =
+    let args = c.args in
+    let M = model_of args.model in
+    let whole = rows_refused M args.file.now args.out.now none _ (answer_refused c.admitted.result (admit M (decode args.file.now)) c.admitted.ensures _ c.in_err-program.was) in
+    record { answer = passed_on _ _ c.from_residual.ensures.1 ∙ whole.0; output = whole.1 }
+
 pub next_page-page-requires : goal.next_page-page-requires
-next_page-page-requires c =
-    let answer = c.admitted-a in
-    answer_listed (model_of c.args.model) (model_laws c.args.model) answer.result c.args.file.now answer.ensures c.in-Accepted.is
+next_page-page-requires c = answer_listed (model_of c.args.model) (model_laws c.args.model) c.admitted.result _ c.args.file.now c.admitted.ensures c.in_ok-program.was
 
-pub returns-in-Refused : goal.returns-in-Refused
-returns-in-Refused c =
+pub returns : goal.returns
+returns c =
     let args = c.args in
-    let answer = c.admitted-a in
-    let whole = rows_refused (model_of args.model) args.file.now args.out.now none _ _ (answer_refused answer.result (admit (model_of args.model) (decode args.file.now)) answer.ensures _ _ c.in-Refused.is) in
-    record { answer = whole.0; output = whole.1 }
-
-pub returns-in-Accepted : goal.returns-in-Accepted
-returns-in-Accepted c =
-    let args = c.args in
-    let answer = c.admitted-a in
+    let M = model_of args.model in
+    let p = program_of c.in_ok-program.program in
     let page = c.next_page-page in
-    let p = program_of answer.result.program in
-    let e = answer_accepted answer.result (admit (model_of args.model) (decode args.file.now)) answer.ensures c.in-Accepted.is in
-    let whole = rows_paged (model_of args.model) args.file.now args.out.now none p _ _ page.result e (c.beginning.ensures (sought (model_of args.model) false p) ∙ sym (after_none (sought (model_of args.model) false p))) page.ensures in
+    let e = answer_accepted c.admitted.result (admit M (decode args.file.now)) c.admitted.ensures _ c.in_ok-program.was in
+    let behind = c.beginning.ensures (sought M false p) ∙ sym (after_none (sought M false p)) in
+    let whole = rows_paged M args.file.now args.out.now none p _ _ page.result e behind page.ensures in
     record { answer = whole.0; output = whole.1 }

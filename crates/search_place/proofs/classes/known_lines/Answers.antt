@@ -1,6 +1,7 @@
-use Rattle.search_place.proofs.ClassGroups.{six_known}
+-- `known_lines` has gone over all six.
+use Rattle.std.proofs.Common.{arith}
+use Rattle.search_place.proofs.ClassGroups.{all_known}
 use Rattle.search_place.proofs.classes.known_lines.Goals as goal
 
--- src/classes.rt:18:1
 pub returns : goal.returns
-returns c = six_known c.args.class c.args.groups c.known.result c.known-2.result c.known-3.result c.known-4.result c.known-5.result c.known-6.result c.known.ensures c.known-2.ensures c.known-3.ensures c.known-4.ensures c.known-5.ensures c.known-6.ensures
+returns c = let loop = c.loop-t in all_known c.args.class loop.known c.args.groups (λ t h. loop.invariant.before t (omega (arith, c.loop-t-test.false)))

@@ -9,5 +9,5 @@ returns c =
     let a = c.args in
     let started = c.started-m in
     λ class groups p loaded e lines.
-    reached_start a.code.now a.lengths.now class a.threads groups started.result _ c.live_set.result p loaded lines (started.ensures.1 p loaded e)
-    (c.live_set.ensures a.code.now started.result (start p) refl (started.ensures.1 p loaded e))
+    reached_start a.program.now.code a.program.now.lengths class a.program.now.threads groups started.result _ c.live_set.result p loaded lines (started.ensures.1 p loaded e)
+    (c.live_set.ensures a.program.now.code started.result (start p) refl (started.ensures.1 p loaded e))

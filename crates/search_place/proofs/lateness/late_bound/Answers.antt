@@ -7,6 +7,3 @@ pub returns-then-late-eq0 : goal.returns-then-late-eq0
 returns-then-late-eq0 c =
     let a = c.args in
     (omega (arith, c.requires), λ σ b u e h l. late_none σ a.late a.t b u c.if-late-eq0.true e h)
-
-pub returns : goal.returns
-returns c = (omega arith, λ σ b u e h l. absurd (omega (arith, h, l)))

@@ -1,15 +1,13 @@
--- One line for each of the three first bytes, and one for the others.
-use Rattle.search_rules.proofs.WhatIsLeft.{reader_load, reader_fetch_add, reader_compare_swap, reader_none}
+-- One line for the three first bytes, and one for the others.
+use Rattle.std.proofs.Common.{arith}
+use Rattle.search_rules.proofs.WhatIsLeft.{reader_some, reader_none}
 use Rattle.search_rules.proofs.leaving.is_reader.Goals as goal
 
-pub returns-then-b-eq17 : goal.returns-then-b-eq17
-returns-then-b-eq17 c = reader_load c.args.code.now c.args.row c.requires c.if-b-eq17.true
+pub returns-in-17 : goal.returns-in-17
+returns-in-17 c = reader_some c.args.code.now c.args.row c.requires (omega arith) (omega arith)
 
-pub returns-then-b-eq18 : goal.returns-then-b-eq18
-returns-then-b-eq18 c = reader_fetch_add c.args.code.now c.args.row c.requires c.if-b-eq18.true
+pub returns-in_default : goal.returns-in_default
+returns-in_default c = reader_none c.args.code.now c.args.row c.requires (λ e. grind (arith, e)) (λ e. grind (arith, e)) (λ e. grind (arith, e))
 
-pub returns-then-b-eq19 : goal.returns-then-b-eq19
-returns-then-b-eq19 c = reader_compare_swap c.args.code.now c.args.row c.requires c.if-b-eq19.true
-
-pub returns : goal.returns
-returns c = reader_none c.args.code.now c.args.row c.requires c.if-b-eq17.false c.if-b-eq18.false c.if-b-eq19.false
+pub returns-in_default-2 : goal.returns-in_default-2
+returns-in_default-2 c = reader_none c.args.code.now c.args.row c.requires (λ e. grind (arith, e)) (λ e. grind (arith, e)) (λ e. grind (arith, e))

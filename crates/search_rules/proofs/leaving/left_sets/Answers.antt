@@ -1,10 +1,7 @@
-use Rattle.std.proofs.Common.{rules, ℕ, suc, ◌+◌, ◌-◌, ◌/◌, ◌%◌, ◌<◌, ◌≡◌, subst, arith, get_or, drop, length-set}
+use Rattle.std.proofs.Common.{ℕ, suc, ◌+◌, ◌-◌, ◌/◌, ◌%◌, ◌<◌, ◌≡◌, subst, arith, get_or, drop, length-set}
 use Rattle.file_rows.specs.Rows.{thread_code}
-use Rattle.search_rules.proofs.WhatIsLeft.{From, rows_left, rows_skip, rows_more, reads_behind, writes_behind}
+use Rattle.search_rules.proofs.WhatIsLeft.{From, rows_more, reads_behind, writes_behind}
 use Rattle.search_rules.proofs.leaving.left_sets.Goals as goal
-
-pub loop-row-init : goal.loop-row-init
-loop-row-init c = (search rules, search rules, λ t i h l n k. absurd (omega arith))
 
 pub loop-row-preserved-then-n-le16 : goal.loop-row-preserved-then-n-le16
 loop-row-preserved-then-n-le16 c =
@@ -18,35 +15,12 @@ loop-row-preserved-then-n-le16 c =
     let k = loop.row - 1 in
     let below : k < 96 = omega (arith, loop.invariant.0, test.true) in
     let up : loop.row ≡ k + 1 = omega (arith, test.true) in
-    let f = subst (λ (j : ℕ). From a.code.now a.lengths.now j loop.left) up loop.invariant.2 in
-    let is = drop (suc (k % 16)) (thread_code a.code.now (k / 16) (get_or a.lengths.now (k / 16) 0)) in
-    let r = reads_behind a.code.now a.lengths.now k below loop.left f own short reads.result reads.ensures.0 reads.ensures.1 in
-    let w = writes_behind a.code.now a.lengths.now k below loop.left f own short writes.result writes.ensures.0 writes.ensures.1 in (
+    let f = subst (λ (j : ℕ). From a.program.now.code a.program.now.lengths j loop.left) up loop.invariant.2 in
+    let is = drop (suc (k % 16)) (thread_code a.program.now.code (k / 16) (get_or a.program.now.lengths (k / 16) 0)) in
+    let r = reads_behind a.program.now.code a.program.now.lengths k below loop.left f own short reads.result reads.ensures.0 reads.ensures.1 in
+    let w = writes_behind a.program.now.code a.program.now.lengths k below loop.left f own short writes.result writes.ensures.0 writes.ensures.1 in (
       omega (arith, below),
       simp length-set loop.invariant.1,
-      rows_more a.code.now a.lengths.now k below loop.left f own short c.reads_from.result c.writes_from.result loop.invariant.1
+      rows_more a.program.now.code a.program.now.lengths k below loop.left f own short c.reads_from.result c.writes_from.result loop.invariant.1
           (c.reads_from.ensures is r) (c.writes_from.ensures is w),
     )
-
-pub loop-row-preserved-else-n-le16 : goal.loop-row-preserved-else-n-le16
-loop-row-preserved-else-n-le16 c =
-    let a = c.args in
-    let k = c.loop-row.row - 1 in
-    let below : k < 96 = omega (arith, c.loop-row.invariant.0, c.loop-row-test.true) in
-    let up : c.loop-row.row ≡ k + 1 = omega (arith, c.loop-row-test.true) in
-    let f = subst (λ (j : ℕ). From a.code.now a.lengths.now j c.loop-row.left) up c.loop-row.invariant.2 in
-    (omega (arith, below), c.loop-row.invariant.1, rows_skip a.code.now a.lengths.now k below c.loop-row.left f (λ h i. omega (arith, i, c.if-n-le16.false)))
-
-pub loop-row-preserved : goal.loop-row-preserved
-loop-row-preserved c =
-    let a = c.args in
-    let k = c.loop-row.row - 1 in
-    let below : k < 96 = omega (arith, c.loop-row.invariant.0, c.loop-row-test.true) in
-    let up : c.loop-row.row ≡ k + 1 = omega (arith, c.loop-row-test.true) in
-    let f = subst (λ (j : ℕ). From a.code.now a.lengths.now j c.loop-row.left) up c.loop-row.invariant.2 in
-    (omega (arith, below), c.loop-row.invariant.1, rows_skip a.code.now a.lengths.now k below c.loop-row.left f (λ h i. omega (arith, h, c.if-i-n.false)))
-
-pub returns : goal.returns
-returns c =
-    let a = c.args in
-    rows_left a.code.now a.lengths.now c.loop-row.left (subst (λ (j : ℕ). From a.code.now a.lengths.now j c.loop-row.left) (omega (arith, c.loop-row-test.false)) c.loop-row.invariant.2)

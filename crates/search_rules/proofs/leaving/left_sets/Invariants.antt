@@ -4,7 +4,4 @@ use Rattle.search_rules.proofs.WhatIsLeft.{From}
 use Rattle.search_rules.proofs.leaving.left_sets.Given as goal
 
 abbrev pub invariant-loop-row : goal.invariant-loop-row
-invariant-loop-row l = (l.row ≤ 96) × (length l.left ≡ 192) × From l.code l.lengths l.row l.left
-
-abbrev pub decreases-loop-row : goal.decreases-loop-row
-decreases-loop-row l = l.row
+invariant-loop-row l = (l.row ≤ 96) × (length l.left ≡ 192) × From l.program.code l.program.lengths l.row l.left

@@ -25,10 +25,10 @@ returns-then-not-is_quiet c =
     let u = c.loop-u.u in
     λ σ rests left.
     let s = c.access_of-a.ensures σ rests in
-    let q = quiet_held a.code.now a.lengths.now a.at.now σ rests a.t c.requires.0 a.set u c.access_of-a.result.location c.access_of-a.result.writer c.loop-u-test.true
+    let q = quiet_held a.program.now.code a.program.now.lengths a.at.now σ rests a.t c.requires.0 a.set u c.access_of-a.result.location c.access_of-a.result.writer c.loop-u-test.true
     (s.0 ∙ ap (place σ) c.wide.ensures.same) (s.1 ∙ ap (λ (i : ℕ). may_write (thread_of σ i).local) c.wide.ensures.same) in
     sleeps_by σ a.set a.t _ (sym c.is_in.ensures ∙ c.if-not-is_in.false)
-    (c.loop-u.invariant.1 σ rests left ∙ all_fails (λ k. has a.set k || not (wakes σ a.t k)) u (6 - u) (omega (arith, c.loop-u-test.true)) (sym q ∙ sym (c.is_quiet.ensures a.code.now left) ∙ c.if-not-is_quiet.true))
+    (c.loop-u.invariant.1 σ rests left ∙ all_fails (λ k. has a.set k || not (wakes σ a.t k)) u (6 - u) (omega (arith, c.loop-u-test.true)) (sym q ∙ sym (c.is_quiet.ensures a.program.now.code left) ∙ c.if-not-is_quiet.true))
 
 pub loop-u-preserved : goal.loop-u-preserved
 loop-u-preserved c =
@@ -37,10 +37,10 @@ loop-u-preserved c =
       search rules,
       λ σ rests holds.
           let s = c.access_of-a.ensures σ rests in
-          let q = quiet_held a.code.now a.lengths.now a.at.now σ rests a.t c.requires.0 a.set u c.access_of-a.result.location c.access_of-a.result.writer c.loop-u-test.true
+          let q = quiet_held a.program.now.code a.program.now.lengths a.at.now σ rests a.t c.requires.0 a.set u c.access_of-a.result.location c.access_of-a.result.writer c.loop-u-test.true
           (s.0 ∙ ap (place σ) c.wide.ensures.same) (s.1 ∙ ap (λ (i : ℕ). may_write (thread_of σ i).local) c.wide.ensures.same) in
           let n : 6 - u - 1 ≡ 6 - (u + 1) = omega arith in
-          c.loop-u.invariant.1 σ rests holds ∙ all_further (λ k. has a.set k || not (wakes σ a.t k)) u (6 - u) (omega (arith, c.loop-u-test.true)) (sym q ∙ sym (c.is_quiet.ensures a.code.now holds) ∙ c.if-not-is_quiet.false)
+          c.loop-u.invariant.1 σ rests holds ∙ all_further (λ k. has a.set k || not (wakes σ a.t k)) u (6 - u) (omega (arith, c.loop-u-test.true)) (sym q ∙ sym (c.is_quiet.ensures a.program.now.code holds) ∙ c.if-not-is_quiet.false)
           ∙ ap (λ (j : ℕ). all (λ k. has a.set k || not (wakes σ a.t k)) (range (u + 1) j)) n,
     )
 

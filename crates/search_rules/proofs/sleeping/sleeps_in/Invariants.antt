@@ -9,7 +9,4 @@ use Rattle.search_rules.proofs.sleeping.sleeps_in.Given as goal
 
 abbrev pub invariant-loop-u : goal.invariant-loop-u
 invariant-loop-u l =
-    (l.u ≤ 6) × ((σ : State) → Rests l.code l.lengths l.at σ → Left l.code l.lengths l.left → all (λ k. has l.set k || not (wakes σ l.t k)) (range 0 6) ≡ all (λ k. has l.set k || not (wakes σ l.t k)) (range l.u (6 - l.u)))
-
-abbrev pub decreases-loop-u : goal.decreases-loop-u
-decreases-loop-u l = 6 - l.u
+    (l.u ≤ 6) × ((σ : State) → Rests l.program.code l.program.lengths l.at σ → Left l.program.code l.program.lengths l.left → all (λ k. has l.set k || not (wakes σ l.t k)) (range 0 6) ≡ all (λ k. has l.set k || not (wakes σ l.t k)) (range l.u (6 - l.u)))

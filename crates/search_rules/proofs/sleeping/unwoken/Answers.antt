@@ -1,32 +1,33 @@
--- `unwoken` asks each of the six threads, and adds up their bits.
-use Rattle.std.proofs.Common.{arith}
+use Rattle.std.proofs.Common.{sym, ap, ◌∙◌, ◌≡◌, arith}
+use Rattle.theory_sc.specs.Sets.{set_of}
 use Rattle.theory_sc.specs.Sleepers.{sleeps_in, unwoken}
-use Rattle.search_place.proofs.Bits.{six_bits}
+use Rattle.theory_sc.proofs.Sets.{set_none, set_grown, bound_grown}
+use Rattle.search_place.proofs.Bits.{chosen}
 use Rattle.search_rules.proofs.sleeping.unwoken.Goals as goal
 
-pub sleeps_in-b0-requires : goal.sleeps_in-b0-requires
-sleeps_in-b0-requires c = (omega arith, c.requires)
+pub loop-t-init : goal.loop-t-init
+loop-t-init c = (omega arith, λ σ rests left. sym (set_none (sleeps_in σ c.args.set) 0 (λ u h. absurd (omega arith))))
 
-pub sleeps_in-b1-requires : goal.sleeps_in-b1-requires
-sleeps_in-b1-requires c = (omega arith, c.requires)
+pub overflow_add-next : goal.overflow_add-next
+overflow_add-next c =
+    let power = c.power.ensures in
+    let choice = chosen _ c.power.result c.choose-next.result c.choose-next.ensures in
+    record { fits = omega (arith, c.loop-t.invariant.0, power.0, power.1, choice.1) }
 
-pub sleeps_in-b2-requires : goal.sleeps_in-b2-requires
-sleeps_in-b2-requires c = (omega arith, c.requires)
-
-pub sleeps_in-b3-requires : goal.sleeps_in-b3-requires
-sleeps_in-b3-requires c = (omega arith, c.requires)
-
-pub sleeps_in-b4-requires : goal.sleeps_in-b4-requires
-sleeps_in-b4-requires c = (omega arith, c.requires)
-
-pub sleeps_in-b5-requires : goal.sleeps_in-b5-requires
-sleeps_in-b5-requires c = (omega arith, c.requires)
+pub loop-t-preserved : goal.loop-t-preserved
+loop-t-preserved c =
+    let a = c.args in
+    let loop = c.loop-t in
+    let power = c.power in
+    let added = c.choose-next.result in
+    let choice = chosen _ _ _ c.choose-next.ensures in (
+      bound_grown loop.t loop.next added power.result loop.invariant.0 choice.1 power.ensures.0,
+      λ σ rests left. set_grown (sleeps_in σ a.set) loop.t loop.next added power.result c.sleeps_in.result (loop.invariant.1 σ rests left) (c.sleeps_in.ensures σ rests left) power.ensures.0 choice.0,
+    )
 
 pub returns : goal.returns
 unfolding unwoken
 returns c =
-    let a = c.args in
-    λ σ rests left. six_bits (sleeps_in σ a.set) c.sleeps_in-b0.result c.sleeps_in-b1.result c.sleeps_in-b2.result c.sleeps_in-b3.result c.sleeps_in-b4.result c.sleeps_in-b5.result
-    c.addend.result c.addend-2.result c.addend-3.result c.addend-4.result c.addend-5.result c.addend-6.result
-    c.addend.ensures.0 c.addend-2.ensures.0 c.addend-3.ensures.0 c.addend-4.ensures.0 c.addend-5.ensures.0 c.addend-6.ensures.0
-    (c.sleeps_in-b0.ensures σ rests left) (c.sleeps_in-b1.ensures σ rests left) (c.sleeps_in-b2.ensures σ rests left) (c.sleeps_in-b3.ensures σ rests left) (c.sleeps_in-b4.ensures σ rests left) (c.sleeps_in-b5.ensures σ rests left)
+    let loop = c.loop-t in
+    let e : loop.t ≡ 6 = omega (arith, c.loop-t-test.false) in
+    λ σ rests left. loop.invariant.1 σ rests left ∙ ap (set_of (sleeps_in σ c.args.set)) e

@@ -1,5 +1,5 @@
 -- `at_end` writes the schedule's row, if it is looked for.
-use Rattle.std.proofs.Common.{rules, ◌≡◌, sym, ◌∙◌, arith, length, length-take, length-take-le}
+use Rattle.std.proofs.Common.{rules, ◌≡◌, sym, ◌∙◌}
 use Rattle.spec_model.specs.Model.{failing}
 use Rattle.spec_sc.specs.Sequential.{sc}
 use Rattle.theory_sc.proofs.Search.{behind_end, behind_passed}
@@ -19,24 +19,8 @@ returns-then-not-is_meant c =
       within = c.requires.1;
       added = λ code lengths class threads groups p v at e.
           adds_none 24 (failing sc p) a.a.room _ a.out.now a.a.rows
-          (behind_passed a.a.failures p a.x.steps v c.some_failed-f.result e (sym (c.some_failed-f.ensures ∙ fails_by_lem at.holds)) (sym c.is_meant.ensures ∙ c.if-not-is_meant.true));
+          (behind_passed a.a.failures p a.x.now.steps v c.some_failed-f.result e (sym (c.some_failed-f.ensures ∙ fails_by_lem at.holds)) (sym c.is_meant.ensures ∙ c.if-not-is_meant.true));
     }
-
-pub slice_bounds-schedule-end : goal.slice_bounds-schedule-end
-slice_bounds-schedule-end c =
-    let s : length c.args.x.schedule ≡ 24 = search rules in
-    omega (arith, s, c.requires.0)
-
-pub slice_bounds-put_row-end-2 : goal.slice_bounds-put_row-end-2
-slice_bounds-put_row-end-2 c =
-    let s : length c.args.x.schedule ≡ 24 = search rules in
-    sym (length-take-le _ _ (omega (arith, s, c.requires.0)))
-
-pub put_row-requires : goal.put_row-requires
-put_row-requires c =
-    let s : length c.args.x.schedule ≡ 24 = search rules in
-    let n = length-take c.args.x.steps c.args.x.schedule in
-    (omega (arith, n, s), omega arith, search rules)
 
 pub returns : goal.returns
 unfolding row_of
@@ -49,6 +33,6 @@ returns c = record {
       let f : failing sc p v ≡ some-failed.result = sym (some-failed.ensures ∙ fails_by_lem at.holds) in
       let w = at.schedule in
       adds_one 24 (failing sc p) a.a.room _ v a.out.now c.put_row.new.out a.a.rows
-      (behind_end a.a.failures p a.x.steps v some-failed.result e f (sym is-meant.ensures ∙ c.if-not-is_meant.false))
+      (behind_end a.a.failures p a.x.now.steps v some-failed.result e f (sym is-meant.ensures ∙ c.if-not-is_meant.false))
       c.if-a-rows.false (c.put_row.ensures ∙ rw (w, f));
 }

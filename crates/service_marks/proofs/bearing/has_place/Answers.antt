@@ -1,22 +1,22 @@
--- `has_place` looks at the name's length, then at the place.
-use Rattle.std.proofs.Common.{ap, sym, ◌∙◌}
+-- `has_place` looks at the name's length and the place's number, then at the place.
+use Rattle.std.proofs.Common.{◌≡◌, not, ◌&&◌, eqb, ◌∙◌, arith}
+use Rattle.std.proofs.lemmas.Bool.Decides.{nat_tests}
 use Rattle.file_decoder.specs.Compiled.{program_of}
 use Rattle.spec_service.specs.Marks.{name_fits}
-use Rattle.service_marks.proofs.Named.{place_unfit, place_end, place_else}
+use Rattle.service_marks.proofs.Named.{place_fit, place_unfit}
+use Rattle.service_marks.proofs.bearing.has_place.Goals.{then-name_fits, else-name_fits}
 use Rattle.service_marks.proofs.bearing.has_place.Goals as goal
 
-pub returns-then-m-eq3 : goal.returns-then-m-eq3
-returns-then-m-eq3 c =
-    let x = c.args in
-    place_end (program_of x.p) x.m (ap name_fits (sym c.wide-n.ensures.same) ∙ sym c.name_fits.ensures ∙ c.if-name_fits.true) c.if-m-eq3.true
+pub returns-then-m-ne3 : goal.returns-then-m-ne3
+returns-then-m-ne3 c =
+    let m = c.args.m.now in
+    let v : c.if-name_fits.value ≡ (name_fits m.length && not (eqb m.place 3)) =
+    elim c.if-name_fits.branch [ then-name_fits w ↦ grind (arith, nat_tests, w.value-is, w.if-name_fits, c.name_fits.ensures, c.from.ensures) | else-name_fits w ↦ grind (arith, nat_tests, w.value-is, w.if-name_fits, c.name_fits.ensures, c.from.ensures) ] in
+    c.is_place.ensures ∙ place_fit (program_of c.args.p.now) m _ v c.if-m-ne3.true
 
-pub returns-then-name_fits : goal.returns-then-name_fits
-returns-then-name_fits c =
-    let x = c.args in
-    c.is_place.ensures
-    ∙ place_else (program_of x.p) x.m (ap name_fits (sym c.wide-n.ensures.same) ∙ sym c.name_fits.ensures ∙ c.if-name_fits.true) c.if-m-eq3.false
-
-pub returns : goal.returns
-returns c =
-    let x = c.args in
-    place_unfit (program_of x.p) x.m (ap name_fits (sym c.wide-n.ensures.same) ∙ sym c.name_fits.ensures ∙ c.if-name_fits.false)
+pub returns-else-m-ne3 : goal.returns-else-m-ne3
+returns-else-m-ne3 c =
+    let m = c.args.m.now in
+    let v : c.if-name_fits.value ≡ (name_fits m.length && not (eqb m.place 3)) =
+    elim c.if-name_fits.branch [ then-name_fits w ↦ grind (arith, nat_tests, w.value-is, w.if-name_fits, c.name_fits.ensures, c.from.ensures) | else-name_fits w ↦ grind (arith, nat_tests, w.value-is, w.if-name_fits, c.name_fits.ensures, c.from.ensures) ] in
+    place_unfit (program_of c.args.p.now) m _ v c.if-m-ne3.false

@@ -1,24 +1,20 @@
 -- `open_refusal` goes by the refusals in their order.
-use Rattle.std.proofs.Common.{sym, ◌∙◌}
-use Rattle.spec_service.specs.Seat.{is_open}
-use Rattle.spec_service.specs.Record.{reading}
-use Rattle.service_marks.proofs.Foremost.{refused_22, refused_42, refused_44, refused_not}
+use Rattle.std.proofs.Common.{rules, tests}
+use Rattle.service_marks.specs.Numbers.{open_refusal}
 use Rattle.service_marks.proofs.before.open_refusal.Goals as goal
 
 pub returns-then-n-ne4 : goal.returns-then-n-ne4
-returns-then-n-ne4 c = let x = c.args in refused_22 x.n x.k (is_open (reading x.c)) c.if-n-ne4.true
+unfolding open_refusal
+returns-then-n-ne4 c = search (rules, tests)
 
 pub returns-then-k-gt3 : goal.returns-then-k-gt3
-returns-then-k-gt3 c = let x = c.args in refused_42 x.n x.k (is_open (reading x.c)) c.if-n-ne4.false c.if-k-gt3.true
+unfolding open_refusal
+returns-then-k-gt3 c = search (rules, tests)
 
-pub returns-then-is_open : goal.returns-then-is_open
-returns-then-is_open c =
-    let x = c.args in
-    refused_not x.n x.k (is_open (reading x.c)) c.if-n-ne4.false c.if-k-gt3.false
-    (sym c.is_open.ensures ∙ c.if-is_open.true)
+pub returns-then-not-is_open : goal.returns-then-not-is_open
+unfolding open_refusal
+returns-then-not-is_open c = search (rules, tests)
 
 pub returns : goal.returns
-returns c =
-    let x = c.args in
-    refused_44 x.n x.k (is_open (reading x.c)) c.if-n-ne4.false c.if-k-gt3.false
-    (sym c.is_open.ensures ∙ c.if-is_open.false)
+unfolding open_refusal
+returns c = search (rules, tests)

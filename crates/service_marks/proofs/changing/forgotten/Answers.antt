@@ -6,4 +6,4 @@ use Rattle.service_marks.proofs.changing.forgotten.Goals as goal
 
 pub returns : goal.returns
 unfolding with_marks mark_forgotten
-returns c = ap (with_marks c.args.c) c.emptied-left.ensures
+returns c = ap (with_marks c.args.c.now) c.emptied-marks.ensures

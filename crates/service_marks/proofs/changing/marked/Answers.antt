@@ -8,4 +8,4 @@ pub returns : goal.returns
 unfolding with_marks
 returns c =
     let x = c.args in
-    ap₂ (λ (l : List Mark) (m : Mark). with_marks x.c (set l x.i m)) c.emptied-left.ensures c.new_mark-x.ensures
+    ap₂ (λ (l : List Mark) (m : Mark). with_marks x.c.now (set l x.i m)) c.emptied-marks.ensures c.new_mark.ensures

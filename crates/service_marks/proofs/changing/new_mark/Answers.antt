@@ -1,5 +1,5 @@
 -- `new_mark` goes by whether a full schedule was handed.
-use Rattle.std.proofs.Common.{ℕ, ◌≤◌, ◌%◌, ◌≡◌, ap, sym, ◌∙◌, List, le_refl, mod-eq_of_lt, arith, length, take, replicate, take_all}
+use Rattle.std.proofs.Common.{ℕ, ◌≡◌, ap, sym, refl, ◌∙◌, List, le_refl, length, take, replicate, take_all}
 use Rattle.spec_file.specs.Over.{over}
 use Rattle.file_decoder.specs.Compiled.{program_of}
 use Rattle.spec_service.specs.Marks.{last_handed}
@@ -10,17 +10,14 @@ use Rattle.service_marks.proofs.changing.new_mark.Goals as goal
 whole : (n : List ℕ) → over (take (length n) n) (replicate 8 0) ≡ over n (replicate 8 0)
 whole n = ap (λ (t : List ℕ). over t (replicate 8 0)) (take_all (length n) n (le_refl (length n)))
 
-small : (n : ℕ) → n ≤ 8 → n % 256 ≡ n
-small n h = mod-eq_of_lt (omega (arith, h))
-
 pub returns-then-was_handed : goal.returns-then-was_handed
 returns-then-was_handed c =
     let x = c.args in
     let n = x.name.now in
-    new_behind n x.c _ _ (c.put_front.ensures ∙ whole n) (small (length n) c.requires.1) (last_handed (program_of x.p) x.c) (sym c.was_handed.ensures ∙ c.if-was_handed.true)
+    new_behind n x.c.now _ _ (c.put_front.ensures ∙ whole n) refl (last_handed (program_of x.p.now) x.c.now) (sym c.was_handed.ensures ∙ c.if-was_handed.true)
 
 pub returns : goal.returns
 returns c =
     let x = c.args in
     let n = x.name.now in
-    new_first n x.c _ _ (c.put_front.ensures ∙ whole n) (small (length n) c.requires.1) (last_handed (program_of x.p) x.c) (sym c.was_handed.ensures ∙ c.if-was_handed.false)
+    new_first n x.c.now _ _ (c.put_front.ensures ∙ whole n) refl (last_handed (program_of x.p.now) x.c.now) (sym c.was_handed.ensures ∙ c.if-was_handed.false) _ c.no_mark.ensures

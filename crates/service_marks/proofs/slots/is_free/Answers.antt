@@ -1,23 +1,21 @@
--- `is_free_lem` looks for an earlier one of its name only where the mark has a place.
-use Rattle.std.proofs.Common.{rules, ◌-◌, ◌≡◌, sym, ◌∙◌, arith, length}
+-- `is_free` looks for an earlier one of its name only where the mark has a place.
+use Rattle.std.proofs.Common.{not, ap, sym, ◌∙◌, arith, get_or}
 use Rattle.file_decoder.specs.Compiled.{program_of}
-use Rattle.service_marks.proofs.Named.{placed_short}
-use Rattle.service_marks.proofs.Slotting.{free_itself, free_later}
+use Rattle.spec_service.specs.Record.{no_mark}
+use Rattle.service_marks.proofs.Slotting.{blank, get_d_either, free_itself, free_later}
 use Rattle.service_marks.proofs.slots.is_free.Goals as goal
 
-pub slice_bounds-borne_before-end : goal.slice_bounds-borne_before-end
-slice_bounds-borne_before-end c =
+pub returns-then-not-has_place : goal.returns-then-not-has_place
+returns-then-not-has_place c =
     let x = c.args in
-    let h : length x.m.name ≡ 8 = search rules in
-    omega (arith, h, c.wide-n.ensures.same, placed_short (program_of x.p) x.m (sym c.has_place.ensures ∙ c.if-has_place.true))
+    let ms = x.marks.now in
+    let is = get_d_either ms x.i blank no_mark (omega (arith, c.told-marks, c.requires.1)) in
+    ap not c.if-not-has_place.true ∙ free_itself (program_of x.p.now) ms x.i (get_or ms x.i blank) is (sym c.has_place.ensures ∙ c.if-not-has_place.true)
 
-pub returns-then-has_place : goal.returns-then-has_place
-returns-then-has_place c is =
+pub returns-else-not-has_place : goal.returns-else-not-has_place
+returns-else-not-has_place c =
     let x = c.args in
-    let n = c.wide-n in
-    let z : n.result - 0 ≡ x.m.length = omega (arith, n.ensures.same) in
-    c.borne_before.ensures
-    ∙ free_later (program_of x.p) x.marks x.i x.m is (n.result - 0) (sym c.has_place.ensures ∙ c.if-has_place.true) z
-
-pub returns : goal.returns
-returns c is = let x = c.args in free_itself (program_of x.p) x.marks x.i x.m is (sym c.has_place.ensures ∙ c.if-has_place.false)
+    let ms = x.marks.now in
+    let is = get_d_either ms x.i blank no_mark (omega (arith, c.told-marks, c.requires.1)) in
+    c.is_borne.ensures
+    ∙ free_later (program_of x.p.now) ms x.i (get_or ms x.i blank) is _ (sym c.has_place.ensures ∙ c.if-not-has_place.false) c.from.ensures

@@ -1,42 +1,40 @@
 -- `forget_one` turns away first.
-use Rattle.std.proofs.Common.{sym, ◌∙◌, length}
+use Rattle.std.proofs.Common.{◌≡◌, Err, Ok, None, not, ap, sym, subst, ◌∙◌, rules, length}
+use Rattle.std.specs.Option.{is_some}
+use Rattle.spec_file.specs.declared.refusal.Refusal.{Refusal}
 use Rattle.file_decoder.specs.Compiled.{program_of}
+use Rattle.spec_service.specs.declared.caller.Caller.{Caller}
 use Rattle.spec_service.specs.Seat.{is_open}
 use Rattle.spec_service.specs.Record.{reading}
 use Rattle.spec_service.specs.Marks.{name_fits}
 use Rattle.spec_service.specs.Call.{forget}
-use Rattle.service_one.proofs.Doing.{away, back}
-use Rattle.service_one.proofs.Marked.{passed, forget_early, forget_46, forget_done, forget_list}
+use Rattle.service_one.specs.Left.{Left}
+use Rattle.service_one.proofs.Marked.{passed, forget_refused, forget_46, forget_done}
 use Rattle.service_one.proofs.named.forget_one.Goals as goal
 
-pub returns-then-w-ne0 : goal.returns-then-w-ne0
-returns-then-w-ne0 c cs n q =
+pub returns-in_err-first_refusal : goal.returns-in_err-first_refusal
+returns-in_err-first_refusal c cs n q =
     let x = c.args in
-    away (forget x.k x.name.now) cs x.k x.last.now _ x.c _ 0 q c.turned_away.ensures
-    (forget_early cs x.k x.last.now x.name.now x.c q x.n _ n c.first_refusal-w.ensures c.if-w-ne0.true)
+    let e : c.from_residual.result ≡ Err c.in_err-first_refusal.field-0.0 = search rules in
+    subst (Left (forget x.k x.name.now) cs x.k) (sym e)
+    (forget_refused cs x.k x.name.now x.c.now q x.n n _ (sym c.first_refusal.ensures ∙ c.in_err-first_refusal.was))
 
 pub program_of-p-requires : goal.program_of-p-requires
 program_of-p-requires c =
     let x = c.args in
-    (passed x.n x.k (is_open (reading x.c)) (name_fits (length x.name.now)) (sym c.first_refusal-w.ensures ∙ c.if-w-ne0.false)).2
+    (passed x.n x.k (is_open (reading x.c.now)) (name_fits (length x.name.now)) _ (sym c.first_refusal.ensures ∙ c.in_ok-first_refusal.was)).2
 
-pub slot_of-i-requires : goal.slot_of-i-requires
-slot_of-i-requires c = c.program_of-p.ensures.1
-
-pub returns-then-i-gt7 : goal.returns-then-i-gt7
-returns-then-i-gt7 c cs n q =
+pub returns-then-is_none : goal.returns-then-is_none
+returns-then-is_none c cs n q =
     let x = c.args in
-    let g = passed x.n x.k (is_open (reading x.c)) (name_fits (length x.name.now)) (sym c.first_refusal-w.ensures ∙ c.if-w-ne0.false) in
-    away (forget x.k x.name.now) cs x.k x.last.now _ x.c 46 0 q c.turned_away-then-i-gt7.ensures
-    (forget_46 cs x.k x.last.now x.name.now x.c q (n ∙ g.0) g.1 g.3 (program_of c.program_of-p.result) c.program_of-p.ensures.0 _ c.slot_of-i.ensures c.if-i-gt7.true)
-
-pub forgotten-requires : goal.forgotten-requires
-forgotten-requires c = c.program_of-p.ensures.1
+    let g = passed x.n x.k (is_open (reading x.c.now)) (name_fits (length x.name.now)) _ (sym c.first_refusal.ensures ∙ c.in_ok-first_refusal.was) in
+    let e : c.slot_of.result ≡ None = search rules in
+    subst (λ (r : Refusal). Left (forget x.k x.name.now) cs x.k (Err r)) (sym c.by_number.ensures)
+    (forget_46 cs x.k x.name.now x.c.now q (n ∙ g.0) g.1 g.3 (program_of c.program_of-p.result) c.program_of-p.ensures.0 (sym c.slot_of.ensures ∙ e))
 
 pub returns : goal.returns
 returns c cs n q =
     let x = c.args in
-    let g = passed x.n x.k (is_open (reading x.c)) (name_fits (length x.name.now)) (sym c.first_refusal-w.ensures ∙ c.if-w-ne0.false) in
-    back (forget x.k x.name.now) cs x.k x.last.now _ _ _ c.put_back.ensures c.settle.ensures
-    (forget_done cs x.k x.last.now x.name.now x.c q (n ∙ g.0) g.1 g.3 (program_of c.program_of-p.result) c.program_of-p.ensures.0 _ c.slot_of-i.ensures c.if-i-gt7.false)
-    (forget_list cs x.k x.last.now x.name.now x.c q (n ∙ g.0) g.1 g.3 (program_of c.program_of-p.result) c.program_of-p.ensures.0 _ c.forgotten.ensures)
+    let g = passed x.n x.k (is_open (reading x.c.now)) (name_fits (length x.name.now)) _ (sym c.first_refusal.ensures ∙ c.in_ok-first_refusal.was) in
+    subst (λ (r : Caller). Left (forget x.k x.name.now) cs x.k (Ok r)) (sym c.forgotten.ensures)
+    (forget_done cs x.k x.name.now x.c.now q (n ∙ g.0) g.1 g.3 (program_of c.program_of-p.result) c.program_of-p.ensures.0 (ap is_some (sym c.slot_of.ensures) ∙ c.is_none.ensures ∙ ap not c.if-is_none.false))

@@ -1,19 +1,18 @@
 -- `close_one` turns away first.
-use Rattle.spec_service.specs.Call.{close_for, done, refused}
-use Rattle.service_one.proofs.Doing.{away, back, only_early, only_done, closes, closed_list}
+use Rattle.std.proofs.Common.{◌≡◌, Err, Ok, sym, subst, ◌∙◌, rules}
+use Rattle.spec_service.specs.declared.caller.Caller.{Caller}
+use Rattle.spec_service.specs.Call.{close_for}
+use Rattle.service_one.specs.Left.{Left}
+use Rattle.service_one.proofs.Doing.{close_refused, close_done}
 use Rattle.service_one.proofs.single.close_one.Goals as goal
 
-pub returns-then-w-ne0 : goal.returns-then-w-ne0
-returns-then-w-ne0 c cs n q =
+pub returns-in_err-open_refusal : goal.returns-in_err-open_refusal
+returns-in_err-open_refusal c cs n q =
     let x = c.args in
-    let w = c.open_refusal-w in
-    away (close_for x.k) cs x.k x.last.now _ x.c _ 0 q c.turned_away.ensures
-    (closes cs x.k x.last.now (refused w.result 0) (only_early cs x.k x.n _ n x.c q w.ensures c.if-w-ne0.true))
+    let e : c.from_residual.result ≡ Err c.in_err-open_refusal.field-0.0 = search rules in
+    subst (Left (close_for x.k) cs x.k) (sym e) (close_refused cs x.k x.n x.c.now n q _ (sym c.open_refusal.ensures ∙ c.in_err-open_refusal.was))
 
 pub returns : goal.returns
 returns c cs n q =
     let x = c.args in
-    let w = c.open_refusal-w in
-    back (close_for x.k) cs x.k x.last.now _ _ _ c.put_back.ensures c.settle.ensures
-    (closes cs x.k x.last.now done (only_done cs x.k x.n _ n x.c q w.ensures c.if-w-ne0.false))
-    (closed_list cs x.k _ c.fresh_record.ensures)
+    subst (λ (r : Caller). Left (close_for x.k) cs x.k (Ok r)) (sym c.fresh_record.ensures) (close_done cs x.k x.n x.c.now n q _ (sym c.open_refusal.ensures ∙ c.in_ok-open_refusal.was))

@@ -1,10 +1,10 @@
--- `last_read` is one test.
+-- `last_read` is the library's choice of the smaller.
 use Rattle.std.proofs.Common.{arith}
-use Rattle.service_one.proofs.Doing.{read_above, read_small}
+use Rattle.std.proofs.lemmas.Bool.Decides.{nat_tests}
+use Rattle.std.proofs.lemmas.Grind.{common_steps}
+use Rattle.spec_service.specs.Call.{last_read}
 use Rattle.service_one.proofs.single.last_read.Goals as goal
 
-pub returns-then-last-gt3 : goal.returns-then-last-gt3
-returns-then-last-gt3 c = (read_above c.args.last c.if-last-gt3.true, omega arith)
-
-pub returns : goal.returns
-returns c = (read_small c.args.last c.if-last-gt3.false, c.if-last-gt3.false)
+pub returns-clause-read : goal.returns-clause-read
+unfolding last_read
+returns-clause-read c = grind (arith, nat_tests, common_steps)

@@ -1,11 +1,12 @@
 -- `served` goes by whether there is a schedule.
-use Rattle.spec_service.specs.Record.{standing}
-use Rattle.service_record.proofs.Given.{served_found, served_none}
+use Rattle.std.proofs.Common.{sym, ◌∙◌}
+use Rattle.spec_service.specs.Record.{standing, served}
+use Rattle.service_record.proofs.Handed.{served_given, served_none}
 use Rattle.service_record.proofs.left.served.Goals as goal
 
-pub returns-then-next : goal.returns-then-next
-returns-then-next c = let a = c.args in served_found a.c a.next _ c.wrapping_add_u64-more.ensures.value c.if-next.true
+pub returns-in_default : goal.returns-in_default
+unfolding served standing
+returns-in_default c = λ o e. served_none c.args.c.now o (sym c.in_default.is ∙ e)
 
 pub returns : goal.returns
-unfolding standing
-returns c = let a = c.args in served_none a.c a.next c.if-next.false
+returns c = λ o e. served_given c.args.c.now c.in-Some.next o (sym c.in-Some.is ∙ e)

@@ -1,25 +1,25 @@
 -- `is_place` goes by the number of the place.
-use Rattle.std.proofs.Common.{◌≡◌, ◌-◌, ◌∙◌, arith}
+use Rattle.std.proofs.Common.{◌∙◌, arith, rules, tests}
+use Rattle.std.proofs.lemmas.Bool.Decides.{nat_tests}
 use Rattle.file_decoder.specs.Compiled.{program_of}
-use Rattle.service_record.proofs.Opened.{place_first, place_long, place_behind, place_last}
+use Rattle.spec_service.specs.Record.{place_of}
+use Rattle.service_record.specs.Tested.{is_place}
+use Rattle.service_record.proofs.Opened.{place_behind}
 use Rattle.service_record.proofs.reads.is_place.Goals as goal
 
-pub returns-then-place-eq1 : goal.returns-then-place-eq1
-returns-then-place-eq1 c = let a = c.args in place_first (program_of a.p) a.place a.steps a.schedule c.if-place-eq1.true
+pub returns-in-1 : goal.returns-in-1
+unfolding place_of is_place
+returns-in-1 c = grind (arith, nat_tests, c.in-1.is)
 
-pub returns-then-steps-gt24 : goal.returns-then-steps-gt24
-returns-then-steps-gt24 c =
+pub returns-then-steps-le24 : goal.returns-then-steps-le24
+returns-then-steps-le24 c =
     let a = c.args in
-    place_long (program_of a.p) a.place a.steps a.schedule c.if-place-eq1.false c.if-place-eq2.true c.if-steps-gt24.true
+    c.is_full.ensures ∙ place_behind (program_of a.p.now) a.place a.steps a.schedule.now _ c.in-2.is c.if-steps-le24.true c.from.ensures
 
-pub returns-then-place-eq2 : goal.returns-then-place-eq2
-returns-then-place-eq2 c =
-    let a = c.args in
-    let n = c.wide-n in
-    let z : n.result - 0 ≡ a.steps = omega (arith, n.ensures.same) in
-    c.is_full.ensures
-    ∙ place_behind (program_of a.p) a.place a.steps a.schedule (n.result - 0) c.if-place-eq1.false c.if-place-eq2.true
-    c.if-steps-gt24.false z
+pub returns-else-steps-le24 : goal.returns-else-steps-le24
+unfolding place_of is_place
+returns-else-steps-le24 c = search (tests, rules)
 
-pub returns : goal.returns
-returns c = let a = c.args in place_last (program_of a.p) a.place a.steps a.schedule c.if-place-eq1.false c.if-place-eq2.false
+pub returns-in_default : goal.returns-in_default
+unfolding place_of is_place
+returns-in_default c = search (tests, rules)

@@ -1,37 +1,14 @@
-use Rattle.std.proofs.Common.{refl, sym, ◌∙◌, true, false, arith}
-use Rattle.service_serve.proofs.Choosing.{found_later, found_here, found_none}
-use Rattle.service_serve.proofs.order.next_asking.Invariants.{asked}
+-- `next_asking` is the library's search over the callers in turn.
+use Rattle.std.proofs.Common.{ℕ, ◌+◌, ◌%◌, false, get_or, refl, rules, tests}
+use Rattle.std.proofs.lemmas.Iterator.{YieldsList-from_range, YieldsList-from_map}
+use Rattle.std.proofs.lemmas.Iterator.Search.{find_from_yields_List}
+use Rattle.service_serve.proofs.Choosing.{found_next}
 use Rattle.service_serve.proofs.order.next_asking.Goals as goal
-
-pub loop-i-init : goal.loop-i-init
-loop-i-init c = (omega arith, refl)
-
-pub place_after-k-requires : goal.place_after-k-requires
-place_after-k-requires c = (c.last_read-n.ensures.1, c.loop-i-test.true)
-
-pub returns-then-of_four : goal.returns-then-of_four
-returns-then-of_four c =
-    let x = c.args in
-    let n = c.last_read-n in
-    let loop = c.loop-i in
-    let p = c.place_after-k in
-    found_here (asked x.a x.b x.c x.d) n.result x.last n.ensures.0 loop.i p.result p.ensures loop.invariant.1 c.loop-i-test.true
-    (sym c.of_four.ensures ∙ c.if-of_four.true)
-
-pub loop-i-preserved : goal.loop-i-preserved
-loop-i-preserved c =
-    let x = c.args in
-    let n = c.last_read-n in
-    let loop = c.loop-i in
-    let p = c.place_after-k in
-    let h = c.loop-i-test.true in (
-      omega (arith, h),
-      found_later (asked x.a x.b x.c x.d) n.result loop.i p.result p.ensures loop.invariant.1 h (sym c.of_four.ensures ∙ c.if-of_four.false),
-    )
 
 pub returns : goal.returns
 returns c =
     let x = c.args in
-    let n = c.last_read-n in
-    let loop = c.loop-i in
-    found_none (asked x.a x.b x.c x.d) n.result x.last n.ensures.0 loop.i loop.invariant.1 c.loop-i-test.false
+    let f = λ (k : ℕ). get_or x.asking.now k false in
+    let n = c.last_read.result in
+    found_next f n x.last c.last_read.ensures.read c.find.result
+    (find_from_yields_List f _ _ c.find.result c.find.ensures.ran (YieldsList-from_map _ (λ d. (n + d) % 4) (YieldsList-from_range 1 5 4 c.map.ensures.source refl) c.map.ensures.closure (λ d r q k. search rules)) (λ k b q h. search (rules, tests)))

@@ -6,14 +6,14 @@ use Rattle.states_key.proofs.nearness.comes_back.Goals as goal
 pub loop-y-init : goal.loop-y-init
 loop-y-init c = λ h. (h, refl)
 
-pub returns-then-wide-y : goal.returns-then-wide-y
-returns-then-wide-y c =
+pub returns-then-from-y : goal.returns-then-from-y
+returns-then-from-y c =
     let a = c.args in
     let now = c.loop-y in
-    λ h. sym ((now.invariant h).1 ∙ back_not a.stamps.now a.word now.y now.z c.wide.result c.wide.ensures.same c.loop-y-test.true (now.invariant h).0 c.if-wide-y.true)
+    λ h. sym ((now.invariant h).1 ∙ back_not a.stamps.now a.word now.y now.z c.from.result c.from.ensures c.loop-y-test.true (now.invariant h).0 c.if-from-y.true)
 
 pub loop-y-smaller : goal.loop-y-smaller
-loop-y-smaller c = back_less c.args.stamps.now c.args.word c.loop-y.y c.loop-y.z c.wide.result c.wide.ensures.same c.if-wide-y.false
+loop-y-smaller c = back_less c.args.stamps.now c.args.word c.loop-y.y c.loop-y.z c.from.result c.from.ensures c.if-from-y.false
 
 pub loop-y-preserved : goal.loop-y-preserved
 loop-y-preserved c =
@@ -21,7 +21,7 @@ loop-y-preserved c =
     let now = c.loop-y in
     λ h. (
       omega (arith, (now.invariant h).0),
-      (now.invariant h).1 ∙ back_on a.stamps.now a.word now.y now.z c.wide.result c.wide.ensures.same c.loop-y-test.true (now.invariant h).0 c.if-wide-y.false,
+      (now.invariant h).1 ∙ back_on a.stamps.now a.word now.y now.z c.from.result c.from.ensures c.loop-y-test.true (now.invariant h).0 c.if-from-y.false,
     )
 
 pub returns : goal.returns

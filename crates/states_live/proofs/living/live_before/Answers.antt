@@ -9,8 +9,8 @@ pub returns : goal.returns
 returns c =
     let a = c.args in
     let x = instruction_at a.code.now a.row in
-    λ is en ef. four_bits (live 0 (x ∷ is)) c.is_live-b0.result c.is_live-b1.result c.is_live-b2.result c.is_live-b3.result c.addend.result c.addend-2.result c.addend-3.result c.addend-4.result
-    c.addend.ensures.0 c.addend-2.ensures.0 c.addend-3.ensures.0 c.addend-4.ensures.0
+    λ is en ef. four_bits (live 0 (x ∷ is)) c.is_live-b0.result c.is_live-b1.result c.is_live-b2.result c.is_live-b3.result c.choose.result c.choose-2.result c.choose-3.result c.choose-4.result
+    c.choose.ensures c.choose-2.ensures c.choose-3.ensures c.choose-4.ensures
     (live_bit x is a.next a.far 0 c.is_live-b0.result (omega arith) en ef c.is_live-b0.ensures)
     (live_bit x is a.next a.far 1 c.is_live-b1.result (omega arith) en ef c.is_live-b1.ensures)
     (live_bit x is a.next a.far 2 c.is_live-b2.result (omega arith) en ef c.is_live-b2.ensures)

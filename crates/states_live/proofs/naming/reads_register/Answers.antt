@@ -28,18 +28,19 @@ returns-then-b-eq19 c =
     ∙ reads_second c.args.code.now c.args.row c.requires c.args.r c.kind_of-k.result (c.kind_of-k.ensures ∙ ap kind_of c.wide.ensures.same)
     (ap (λ (o : Operand). in_operand o c.args.r) (sym c.operand_at.ensures) ∙ sym c.is_register.ensures ∙ c.if-is_register.false) c.if-b-eq19.true
 
-pub returns-then-not-reads_own : goal.returns-then-not-reads_own
-returns-then-not-reads_own c =
-    reads_none c.args.code.now c.args.row c.requires c.args.r c.kind_of-k.result (c.kind_of-k.ensures ∙ ap kind_of c.wide.ensures.same)
-    (ap (λ (o : Operand). in_operand o c.args.r) (sym c.operand_at.ensures) ∙ sym c.is_register.ensures ∙ c.if-is_register.false) c.if-b-eq19.false (sym c.reads_own.ensures ∙ c.if-not-reads_own.true)
-
 pub overflow_add-result : goal.overflow_add-result
 overflow_add-result c = let h = (kind_bounds c.wide.result).register in let e = ap (λ (k : Kind). k.register) c.kind_of-k.ensures in search rules
 
-pub bounds-code-at-2 : goal.bounds-code-at-2
-bounds-code-at-2 c = let h = (kind_bounds c.wide.result).register in let e = ap (λ (k : Kind). k.register) c.kind_of-k.ensures in search rules
+pub bounds-code-at-then-reads_own : goal.bounds-code-at-then-reads_own
+bounds-code-at-then-reads_own c = let h = (kind_bounds c.wide.result).register in let e = ap (λ (k : Kind). k.register) c.kind_of-k.ensures in search rules
 
-pub returns : goal.returns
-returns c =
+pub returns-then-reads_own : goal.returns-then-reads_own
+returns-then-reads_own c =
     reads_named c.args.code.now c.args.row c.requires c.args.r c.kind_of-k.result (c.kind_of-k.ensures ∙ ap kind_of c.wide.ensures.same)
-    (ap (λ (o : Operand). in_operand o c.args.r) (sym c.operand_at.ensures) ∙ sym c.is_register.ensures ∙ c.if-is_register.false) (sym c.reads_own.ensures ∙ c.if-not-reads_own.false)
+    (ap (λ (o : Operand). in_operand o c.args.r) (sym c.operand_at.ensures) ∙ sym c.is_register.ensures ∙ c.if-is_register.false) (sym c.reads_own.ensures ∙ c.if-reads_own.true)
+
+pub returns-else-reads_own : goal.returns-else-reads_own
+returns-else-reads_own c =
+    c.if-reads_own.false
+    ∙ reads_none c.args.code.now c.args.row c.requires c.args.r c.kind_of-k.result (c.kind_of-k.ensures ∙ ap kind_of c.wide.ensures.same)
+    (ap (λ (o : Operand). in_operand o c.args.r) (sym c.operand_at.ensures) ∙ sym c.is_register.ensures ∙ c.if-is_register.false) c.if-b-eq19.false (sym c.reads_own.ensures ∙ c.if-reads_own.false)

@@ -6,15 +6,15 @@ use Rattle.spec_file.proofs.KindTable.{kind_bounds}
 use Rattle.states_live.proofs.RowRegisters.{writes_none, writes_named}
 use Rattle.states_live.proofs.naming.writes_register.Goals as goal
 
-pub returns-then-not-writes_own : goal.returns-then-not-writes_own
-returns-then-not-writes_own c = writes_none c.args.code.now c.args.row c.requires c.args.r (sym c.writes_own.ensures ∙ c.if-not-writes_own.true)
-
 pub overflow_add-result : goal.overflow_add-result
-overflow_add-result c = let h = (kind_bounds c.wide.result).register in let e = ap (λ (k : Kind). k.register) c.kind_of-k.ensures in search rules
+overflow_add-result c = let h = (kind_bounds c.wide.result).register in let e = ap (λ (k : Kind). k.register) c.kind_of.ensures in search rules
 
-pub bounds-code-at-2 : goal.bounds-code-at-2
-bounds-code-at-2 c = let h = (kind_bounds c.wide.result).register in let e = ap (λ (k : Kind). k.register) c.kind_of-k.ensures in search rules
+pub bounds-code-at-then-writes_own : goal.bounds-code-at-then-writes_own
+bounds-code-at-then-writes_own c = let h = (kind_bounds c.wide.result).register in let e = ap (λ (k : Kind). k.register) c.kind_of.ensures in search rules
 
-pub returns : goal.returns
-returns c =
-    writes_named c.args.code.now c.args.row c.requires c.args.r c.kind_of-k.result (c.kind_of-k.ensures ∙ ap kind_of c.wide.ensures.same) (sym c.writes_own.ensures ∙ c.if-not-writes_own.false)
+pub returns-then-writes_own : goal.returns-then-writes_own
+returns-then-writes_own c =
+    writes_named c.args.code.now c.args.row c.requires c.args.r c.kind_of.result (c.kind_of.ensures ∙ ap kind_of c.wide.ensures.same) (sym c.writes_own.ensures ∙ c.if-writes_own.true)
+
+pub returns-else-writes_own : goal.returns-else-writes_own
+returns-else-writes_own c = c.if-writes_own.false ∙ writes_none c.args.code.now c.args.row c.requires c.args.r (sym c.writes_own.ensures ∙ c.if-writes_own.false)

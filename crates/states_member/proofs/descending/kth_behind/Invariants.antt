@@ -5,7 +5,7 @@ use Rattle.states_member.proofs.descending.kth_behind.Given as goal
 
 abbrev pub invariant-loop-y : goal.invariant-loop-y
 invariant-loop-y l =
-    (length l.table ≡ length l.initial.table) × Descends l.code l.lengths l.class l.shape.width l.shape.slots l.initial.y l.initial.table l.k l.y l.table l.i
+    (length l.table ≡ length l.initial.table) × Descends l.setup.program.code l.setup.program.lengths l.setup.program.class l.shape.width l.shape.slots l.initial.y l.initial.table l.k l.y l.table l.i
 
 abbrev pub decreases-loop-y : goal.decreases-loop-y
-decreases-loop-y l = 24 - l.y.steps
+decreases-loop-y l = 24 - l.y.place.steps

@@ -26,7 +26,7 @@ returns c =
       member = (
         behind.ensures.words.1,
         behind.ensures.member program.threads program.groups p [] m.stands (subst (λ (n : ℕ). Wide n p) (sym shape.ensures) m.wide) (numbered_none p shape.result.width shape.result.slots _ cleared.ensures.nothing)
-            ∙ start_kth p c.requires made.result.spot.steps m.stands.reached.counted a.k,
+            ∙ start_kth p c.requires made.result.spot.place.steps m.stands.reached.counted a.k,
       );
       zeros = c.clear-2.ensures.zeros ∙ ap (λ (n : ℕ). replicate n 0) (behind.ensures.words.0 ∙ ap length cleared.ensures.zeros ∙ length-replicate {A = ℕ} (length a.table.now) 0);
     }

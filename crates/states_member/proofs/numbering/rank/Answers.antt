@@ -31,6 +31,6 @@ returns c =
     let cleared = c.clear in
     let full = subst (λ (τ : State). FullFrom SC τ a.schedule.now) (sym (run_nil SC (start p))) c.requires.1 in record {
       number = behind.ensures.number program.threads program.groups p [] m.stands full (subst (λ (n : ℕ). Wide n p) (sym shape.ensures) m.wide) (numbered_none p shape.result.width shape.result.slots _ cleared.ensures.nothing)
-          ∙ ap (λ (n : ℕ). n % 2 ^ 64) (start_rank p c.requires.0 made.result.spot.steps m.stands.reached.counted a.schedule.now);
+          ∙ ap (λ (n : ℕ). n % 2 ^ 64) (start_rank p c.requires.0 made.result.spot.place.steps m.stands.reached.counted a.schedule.now);
       zeros = c.clear-2.ensures.zeros ∙ ap (λ (n : ℕ). replicate n 0) (behind.ensures.words ∙ ap length cleared.ensures.zeros ∙ length-replicate {A = ℕ} (length a.table.now) 0);
     }

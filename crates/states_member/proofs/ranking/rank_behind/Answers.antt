@@ -1,23 +1,23 @@
-use Rattle.std.proofs.Common.{rules, ◌<◌, ◌≤◌, refl, sym, ◌∙◌, arith, get_or}
+use Rattle.std.proofs.Common.{◌≤◌, refl, sym, ◌∙◌, arith, get_or}
 use Rattle.spec_sc.specs.Graph.{end_of}
 use Rattle.spec_sc.proofs.Steps.{enabled_small}
-use Rattle.states_member.proofs.Ranks.{full_few, along_start, along_enabled, along_up, along_next, along_over}
+use Rattle.states_member.proofs.Ranks.{along_start, along_enabled, along_up, along_next, along_over}
 use Rattle.states_member.proofs.ranking.rank_behind.Goals as goal
 
-pub loop-i-init : goal.loop-i-init
-loop-i-init c =
+pub loop-b-init : goal.loop-b-init
+loop-b-init c =
     let a = c.args in
-    (refl, omega arith, along_start a.code.now a.lengths.now a.class.now a.shape.width a.shape.slots a.x a.table.now a.schedule.now)
+    (refl, omega arith, along_start a.setup.now.program.code a.setup.now.program.lengths a.setup.now.program.class a.shape.width a.shape.slots a.x.now a.table.now a.schedule.now)
 
 pub smaller-n-requires : goal.smaller-n-requires
 smaller-n-requires c =
     let a = c.args in
     let pre = c.requires in
     let e = pre.0 in
-    let loop = c.loop-i in
-    let here = along_enabled a.code.now a.lengths.now a.class.now a.shape.width a.shape.slots a.x a.table.now a.schedule.now loop.y loop.table loop.sum.listed loop.i loop.invariant.2
-    c.loop-i-test.true (e.0, e.1, e.2, e.3, e.4) e.5 in
-    let h : get_or a.schedule.now loop.i 0 ≤ 6 = omega (arith, enabled_small (end_of e.2 here.0) (get_or a.schedule.now loop.i 0) here.2) in
+    let loop = c.loop-b in
+    let here = along_enabled a.setup.now.program.code a.setup.now.program.lengths a.setup.now.program.class a.shape.width a.shape.slots a.x.now a.table.now a.schedule.now loop.y loop.table loop.sum.listed loop.b-index loop.invariant.2
+    c.loop-b-test.true (e.0, e.1, e.2, e.3, e.4) e.5 in
+    let h : get_or a.schedule.now loop.b-index 0 ≤ 6 = omega (arith, enabled_small (end_of e.2 here.0) (get_or a.schedule.now loop.b-index 0) here.2) in
     ((e.0, e.1, e.2, here.0, here.1), pre.1, pre.2, pre.3, h)
 
 pub gives_up-requires : goal.gives_up-requires
@@ -25,60 +25,53 @@ gives_up-requires c =
     let a = c.args in
     let pre = c.requires in
     let e = pre.0 in
-    let loop = c.loop-i in
-    let here = along_enabled a.code.now a.lengths.now a.class.now a.shape.width a.shape.slots a.x a.table.now a.schedule.now loop.y loop.table loop.sum.listed loop.i loop.invariant.2
-    c.loop-i-test.true (e.0, e.1, e.2, e.3, e.4) e.5 in
+    let loop = c.loop-b in
+    let here = along_enabled a.setup.now.program.code a.setup.now.program.lengths a.setup.now.program.class a.shape.width a.shape.slots a.x.now a.table.now a.schedule.now loop.y loop.table loop.sum.listed loop.b-index loop.invariant.2
+    c.loop-b-test.true (e.0, e.1, e.2, e.3, e.4) e.5 in
     ((e.0, e.1, e.2, here.0, here.1, here.2), pre.1)
 
 -- its own step is given up
 pub returns-then-gives_up : goal.returns-then-gives_up
 returns-then-gives_up c =
     let a = c.args in
-    let loop = c.loop-i in
+    let loop = c.loop-b in
     let smaller = c.smaller-n in
     let added = c.added-sum in record {
       words = smaller.ensures.words ∙ loop.invariant.0;
       number = λ threads groups p v at full wide right.
-          along_up a.code.now a.lengths.now a.class.now a.shape.width a.shape.slots a.x a.table.now a.schedule.now loop.y loop.table _ loop.sum.listed loop.i
-          smaller.result.listed smaller.result.failing _ loop.invariant.2 c.loop-i-test.true smaller.ensures.numbers added.ensures.0
+          along_up a.setup.now.program.code a.setup.now.program.lengths a.setup.now.program.class a.shape.width a.shape.slots a.x.now a.table.now a.schedule.now loop.y loop.table _ loop.sum.listed loop.b-index
+          smaller.result.listed smaller.result.failing _ loop.invariant.2 c.loop-b-test.true smaller.ensures.numbers added.ensures.0
           (λ threads groups p v at ok. sym c.if-gives_up.true ∙ c.gives_up.ensures threads groups p v at ok) (omega (arith, added.ensures.0)) (threads, groups, p, v, at) full wide right;
     }
 
-pub advanced-y-requires : goal.advanced-y-requires
-advanced-y-requires c =
+pub advance-requires : goal.advance-requires
+advance-requires c =
     let a = c.args in
     let e = c.requires.0 in
-    let loop = c.loop-i in
-    let here = along_enabled a.code.now a.lengths.now a.class.now a.shape.width a.shape.slots a.x a.table.now a.schedule.now loop.y loop.table loop.sum.listed loop.i loop.invariant.2
-    c.loop-i-test.true (e.0, e.1, e.2, e.3, e.4) e.5 in
-    (a.class.now, e.0, e.1, e.2, here.0, here.1, here.2)
+    let loop = c.loop-b in
+    let here = along_enabled a.setup.now.program.code a.setup.now.program.lengths a.setup.now.program.class a.shape.width a.shape.slots a.x.now a.table.now a.schedule.now loop.y loop.table loop.sum.listed loop.b-index loop.invariant.2
+    c.loop-b-test.true (e.0, e.1, e.2, e.3, e.4) e.5 in
+    (a.setup.now.program.class, e.0, e.1, e.2, here.0, here.1, here.2)
 
-pub overflow_add-i : goal.overflow_add-i
-overflow_add-i c =
-    let e = c.requires.0 in
-    let at = e.4.reached in
-    let h : c.loop-i.i < 24 = omega (arith, c.loop-i-test.true, full_few e.2 at.loaded.well_formed e.3 c.args.schedule.now at.allowed e.5) in
-    search rules
-
-pub loop-i-preserved : goal.loop-i-preserved
-loop-i-preserved c =
+pub loop-b-preserved : goal.loop-b-preserved
+loop-b-preserved c =
     let a = c.args in
-    let loop = c.loop-i in
+    let loop = c.loop-b in
     let smaller = c.smaller-n in
     let added = c.added-sum in (
       smaller.ensures.words ∙ loop.invariant.0,
       omega (arith, added.ensures.0),
-      along_next a.code.now a.lengths.now a.class.now a.shape.width a.shape.slots a.x a.table.now a.schedule.now loop.y loop.table _ loop.sum.listed loop.i
-          smaller.result.listed smaller.result.failing _ loop.invariant.2 c.loop-i-test.true smaller.ensures.numbers added.ensures.0
-          (λ threads groups p v at ok. sym c.if-gives_up.false ∙ c.gives_up.ensures threads groups p v at ok) c.advanced-y.result c.advanced-y.ensures,
+      along_next a.setup.now.program.code a.setup.now.program.lengths a.setup.now.program.class a.shape.width a.shape.slots a.x.now a.table.now a.schedule.now loop.y loop.table _ loop.sum.listed loop.b-index
+          smaller.result.listed smaller.result.failing _ loop.invariant.2 c.loop-b-test.true smaller.ensures.numbers added.ensures.0
+          (λ threads groups p v at ok. sym c.if-gives_up.false ∙ c.gives_up.ensures threads groups p v at ok) c.advance.new.x c.advance.ensures,
     )
 
 -- the schedule's end
 pub returns : goal.returns
 returns c =
     let a = c.args in
-    let loop = c.loop-i in record {
+    let loop = c.loop-b in record {
       words = loop.invariant.0;
       number = λ threads groups p v at full wide right.
-          along_over a.code.now a.lengths.now a.class.now a.shape.width a.shape.slots a.x a.table.now a.schedule.now loop.y loop.table loop.sum.listed loop.i c.loop-i-test.false loop.invariant.1 loop.invariant.2 (threads, groups, p, v, at) full wide right;
+          along_over a.setup.now.program.code a.setup.now.program.lengths a.setup.now.program.class a.shape.width a.shape.slots a.x.now a.table.now a.schedule.now loop.y loop.table loop.sum.listed loop.b-index c.loop-b-test.false loop.invariant.1 loop.invariant.2 (threads, groups, p, v, at) full wide right;
     }

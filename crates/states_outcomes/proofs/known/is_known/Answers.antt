@@ -1,4 +1,4 @@
-use Rattle.std.proofs.Common.{rules, ℕ, sym, ap, ◌∙◌, false, arith}
+use Rattle.std.proofs.Common.{rules, ℕ, sym, ap, ◌∙◌, arith}
 use Rattle.states_outcomes.specs.Rows.{known_row}
 use Rattle.states_outcomes.proofs.RowLists.{known_at, known_none, known_next}
 use Rattle.states_outcomes.proofs.known.is_known.Goals as goal

@@ -6,15 +6,12 @@ use Rattle.states_outcomes.proofs.FirstNew.{Still}
 use Rattle.states_outcomes.proofs.walking.+new_behind_new_with.Given as goal
 
 abbrev pub decreases-new_behind : goal.decreases-new_behind
-decreases-new_behind l = (24 - l.x.steps) + (24 - l.x.steps) + 1
+decreases-new_behind l = (24 - l.x.now.place.steps) + (24 - l.x.now.place.steps) + 1
 
 abbrev pub decreases-new_with : goal.decreases-new_with
-decreases-new_with l = (24 - l.x.steps) + (24 - l.x.steps)
+decreases-new_with l = (24 - l.x.now.place.steps) + (24 - l.x.now.place.steps)
 
 -- ---- new_behind
 abbrev pub invariant-new_behind-loop-t : goal.invariant-new_behind-loop-t
 invariant-new_behind-loop-t l =
-    Kept l.frame.cut l.initial.lent l.lent × Still l.code l.lengths l.class l.frame l.x (take l.frame.cut l.initial.lent) l.initial.lent l.lent l.t
-
-abbrev pub decreases-new_behind-loop-t : goal.decreases-new_behind-loop-t
-decreases-new_behind-loop-t l = 6 - l.t
+    Kept l.frame.cut l.initial.lent l.lent × Still l.setup.program.code l.setup.program.lengths l.setup.program.class l.frame l.x (take l.frame.cut l.initial.lent) l.initial.lent l.lent l.t

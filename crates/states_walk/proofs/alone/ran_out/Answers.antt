@@ -1,139 +1,66 @@
-use Rattle.std.proofs.Common.{rules, ℕ, ◌<◌, ◌≤◌, ◌≡◌, refl, sym, ap, subst, ◌∙◌, Bool, true, false, cond, ◌||◌, [], ◌∷◌, arith, get_or, take, length-set}
-use mathlib.Core.Option.{none}
-use Rattle.spec_sc.specs.State.{fails}
-use Rattle.spec_sc.specs.Graph.{end_of}
-use Rattle.theory_sc.specs.Search.{found_behind}
-use Rattle.theory_states.specs.Numbers.{charged}
-use Rattle.theory_states.specs.Wrapped.{Wrapped}
-use Rattle.search_place.specs.declared.place.Place.{Place}
-use Rattle.search_tail.specs.Runner.{RunnerOf}
-use Rattle.search_tail.specs.declared.alone.Runner.{Runner}
-use Rattle.search_tail.proofs.RunOut.{running_most, running_ready, running_room}
-use Rattle.states_walk.specs.Known.{numbers_at}
-use Rattle.states_walk.proofs.LastNumbers.{parts, Ran, ran_start, ran_step, ran_numbers, ran_found}
+use Rattle.std.proofs.Common.{rules, ℕ, ◌<◌, ◌≤◌, ◌||◌, refl, subst, ◌∙◌, arith, get_or, length-set}
+use Rattle.search_tail.proofs.RunOut.{Running, running_most, running_ready, running_room}
+use Rattle.states_walk.proofs.LastNumbers.{from, ran_start, ran_step, ran_numbers, ran_found}
+use Rattle.states_walk.proofs.alone.ran_out.Goals.{In-loop-r}
 use Rattle.states_walk.proofs.alone.ran_out.Goals as goal
 
--- the flag behind a step that failed, and behind one that did not
-or-failed : (a b : Bool) → b ≡ true → true ≡ (a || b)
-or-failed true b e = refl
-or-failed false b e = sym e
+-- ---- of the runner in the loop, for one program and prefix
+abbrev Known : In-loop-r → Type 0
+Known c = let a = c.args in let q = c.requires.0 in Running a.program.now.code a.program.now.lengths q.0 q.1 q.2 q.3 q.4 q.5 a.t (from a.r.failed c.loop-r.r)
 
-or-fine : (a b : Bool) → b ≡ false → a ≡ (a || b)
-or-fine true b e = refl
-or-fine false b e = sym e
+known : (c : In-loop-r) → Known c
+known c = let q = c.requires.0 in (c.loop-r.invariant.1 q.0 q.1 q.2 q.3 q.4 q.5 q.6 q.7).run
 
--- the parts of a runner
-apart : (x : Place) (t : ℕ) (r : Runner) → RunnerOf x t r → RunnerOf x t (parts r.thread r.memory r.schedule r.steps r.failed)
-apart x t r of = record { thread = of.thread; memory = of.memory; schedule = of.schedule; steps = of.steps }
+left : (c : In-loop-r) → c.loop-r.r.thread.at < get_or c.args.program.now.lengths c.args.t 0
+left c = subst (λ (i : ℕ). c.loop-r.r.thread.at < get_or c.args.program.now.lengths i 0) c.wide.ensures.same c.loop-r-test.true
 
--- ---- the needs
-pub loop-k-init : goal.loop-k-init
-loop-k-init c =
+room : (c : In-loop-r) → c.loop-r.r.steps < 24
+room c = let a = c.args in let q = c.requires.0 in running_room a.program.now.code a.program.now.lengths q.0 q.1 q.2 q.3 q.4 q.5 a.t (from a.r.failed c.loop-r.r) (known c) c.requires.1 (left c)
+
+pub loop-r-init : goal.loop-r-init
+loop-r-init c =
     let a = c.args in
-    (search rules, λ class threads groups x p v at of. ran_start a.code.now a.lengths.now class threads groups x p v a.t a.r.failed a.r.thread a.r.memory a.r.schedule a.r.steps at of)
+    (search rules, λ class threads groups x p v at of. ran_start a.program.now.code a.program.now.lengths class threads groups x p v a.t a.r.failed a.r refl at of)
 
 pub lean_step-m-requires : goal.lean_step-m-requires
 lean_step-m-requires c =
-    let known : Type 0 = let a = c.args in
-    let q = c.requires.0 in
-    Ran a.code.now a.lengths.now q.0 q.1 q.2 q.3 q.4 q.5 a.t a.r.failed c.loop-k.k c.loop-k.memory c.loop-k.schedule c.loop-k.n c.loop-k.failed in
-    let one : known = let q = c.requires.0 in c.loop-k.invariant.1 q.0 q.1 q.2 q.3 q.4 q.5 q.6 (apart q.3 c.args.t c.args.r q.7) in
-    let left : c.loop-k.k.at < get_or c.args.lengths.now c.args.t 0 = subst (λ (i : ℕ). c.loop-k.k.at < get_or c.args.lengths.now i 0) c.wide.ensures.same c.loop-k-test.true in
     let a = c.args in
     let q = c.requires.0 in
-    running_ready a.code.now a.lengths.now q.0 q.1 q.2 q.3 q.4 q.5 a.t (parts c.loop-k.k c.loop-k.memory c.loop-k.schedule c.loop-k.n a.r.failed) (one).run c.requires.1 (left)
+    let here = (goal.at.lean_step-m-requires c).In-loop-r in
+    running_ready a.program.now.code a.program.now.lengths q.0 q.1 q.2 q.3 q.4 q.5 a.t (from a.r.failed c.loop-r.r) (known here) c.requires.1 (left here)
 
-pub bounds-schedule-n : goal.bounds-schedule-n
-bounds-schedule-n c =
-    let known : Type 0 = let a = c.args in
-    let q = c.requires.0 in
-    Ran a.code.now a.lengths.now q.0 q.1 q.2 q.3 q.4 q.5 a.t a.r.failed c.loop-k.k c.loop-k.memory c.loop-k.schedule c.loop-k.n c.loop-k.failed in
-    let one : known = let q = c.requires.0 in c.loop-k.invariant.1 q.0 q.1 q.2 q.3 q.4 q.5 q.6 (apart q.3 c.args.t c.args.r q.7) in
-    let left : c.loop-k.k.at < get_or c.args.lengths.now c.args.t 0 = subst (λ (i : ℕ). c.loop-k.k.at < get_or c.args.lengths.now i 0) c.wide.ensures.same c.loop-k-test.true in
-    let room : c.loop-k.n < 24 = let a = c.args in
-    let q = c.requires.0 in
-    running_room a.code.now a.lengths.now q.0 q.1 q.2 q.3 q.4 q.5 a.t (parts c.loop-k.k c.loop-k.memory c.loop-k.schedule c.loop-k.n a.r.failed) (one).run c.requires.1 (left) in
-    let h = room in let l = c.loop-k.invariant.0 in search rules
+pub bounds-r-r : goal.bounds-r-r
+bounds-r-r c = room (goal.at.bounds-r-r c).In-loop-r
 
-pub overflow_add-n : goal.overflow_add-n
-overflow_add-n c =
-    let known : Type 0 = let a = c.args in
-    let q = c.requires.0 in
-    Ran a.code.now a.lengths.now q.0 q.1 q.2 q.3 q.4 q.5 a.t a.r.failed c.loop-k.k c.loop-k.memory c.loop-k.schedule c.loop-k.n c.loop-k.failed in
-    let one : known = let q = c.requires.0 in c.loop-k.invariant.1 q.0 q.1 q.2 q.3 q.4 q.5 q.6 (apart q.3 c.args.t c.args.r q.7) in
-    let left : c.loop-k.k.at < get_or c.args.lengths.now c.args.t 0 = subst (λ (i : ℕ). c.loop-k.k.at < get_or c.args.lengths.now i 0) c.wide.ensures.same c.loop-k-test.true in
-    let room : c.loop-k.n < 24 = let a = c.args in
-    let q = c.requires.0 in
-    running_room a.code.now a.lengths.now q.0 q.1 q.2 q.3 q.4 q.5 a.t (parts c.loop-k.k c.loop-k.memory c.loop-k.schedule c.loop-k.n a.r.failed) (one).run c.requires.1 (left) in
-    let h = room in search rules
+pub overflow_add-r : goal.overflow_add-r
+overflow_add-r c = let h = room (goal.at.overflow_add-r c).In-loop-r in search rules
 
-pub loop-k-smaller-then-k : goal.loop-k-smaller-then-k
-loop-k-smaller-then-k c =
-    let known : Type 0 = let a = c.args in
-    let q = c.requires.0 in
-    Ran a.code.now a.lengths.now q.0 q.1 q.2 q.3 q.4 q.5 a.t a.r.failed c.loop-k.k c.loop-k.memory c.loop-k.schedule c.loop-k.n c.loop-k.failed in
-    let one : known = let q = c.requires.0 in c.loop-k.invariant.1 q.0 q.1 q.2 q.3 q.4 q.5 q.6 (apart q.3 c.args.t c.args.r q.7) in
-    let left : c.loop-k.k.at < get_or c.args.lengths.now c.args.t 0 = subst (λ (i : ℕ). c.loop-k.k.at < get_or c.args.lengths.now i 0) c.wide.ensures.same c.loop-k-test.true in
-    let room : c.loop-k.n < 24 = let a = c.args in
-    let q = c.requires.0 in
-    running_room a.code.now a.lengths.now q.0 q.1 q.2 q.3 q.4 q.5 a.t (parts c.loop-k.k c.loop-k.memory c.loop-k.schedule c.loop-k.n a.r.failed) (one).run c.requires.1 (left) in
-    let h = room in omega (arith, h)
+pub loop-r-smaller : goal.loop-r-smaller
+loop-r-smaller c = omega (arith, room (goal.at.loop-r-smaller c).In-loop-r)
 
-pub loop-k-preserved-then-k : goal.loop-k-preserved-then-k
-loop-k-preserved-then-k c =
-    let left : c.loop-k.k.at < get_or c.args.lengths.now c.args.t 0 = subst (λ (i : ℕ). c.loop-k.k.at < get_or c.args.lengths.now i 0) c.wide.ensures.same c.loop-k-test.true in
+pub loop-r-preserved : goal.loop-r-preserved
+loop-r-preserved c =
     let a = c.args in
-    let loop = c.loop-k in
+    let now = c.loop-r in
     let step = c.lean_step-m in (
-      length-set loop.schedule loop.n a.t ∙ loop.invariant.0,
+      length-set now.r.schedule now.r.steps a.t ∙ now.invariant.0,
       λ class threads groups x p v at of.
-          ran_step a.code.now a.lengths.now class threads groups x p v a.t a.r.failed loop.k loop.memory loop.schedule loop.n loop.failed (loop.invariant.1 class threads groups x p v at of) c.requires.1
-          (left) loop.invariant.0 step.result step.ensures true (or-failed loop.failed step.result.thread.failed c.if-k.true),
+          ran_step a.program.now.code a.program.now.lengths class threads groups x p v a.t a.r.failed now.r (now.invariant.1 class threads groups x p v at of) c.requires.1
+          (left (goal.at.loop-r-preserved c).In-loop-r) now.invariant.0 step.result step.ensures (now.r.failed || step.result.thread.failed) refl,
     )
 
-pub loop-k-smaller : goal.loop-k-smaller
-loop-k-smaller c =
-    let known : Type 0 = let a = c.args in
-    let q = c.requires.0 in
-    Ran a.code.now a.lengths.now q.0 q.1 q.2 q.3 q.4 q.5 a.t a.r.failed c.loop-k.k c.loop-k.memory c.loop-k.schedule c.loop-k.n c.loop-k.failed in
-    let one : known = let q = c.requires.0 in c.loop-k.invariant.1 q.0 q.1 q.2 q.3 q.4 q.5 q.6 (apart q.3 c.args.t c.args.r q.7) in
-    let left : c.loop-k.k.at < get_or c.args.lengths.now c.args.t 0 = subst (λ (i : ℕ). c.loop-k.k.at < get_or c.args.lengths.now i 0) c.wide.ensures.same c.loop-k-test.true in
-    let room : c.loop-k.n < 24 = let a = c.args in
-    let q = c.requires.0 in
-    running_room a.code.now a.lengths.now q.0 q.1 q.2 q.3 q.4 q.5 a.t (parts c.loop-k.k c.loop-k.memory c.loop-k.schedule c.loop-k.n a.r.failed) (one).run c.requires.1 (left) in
-    let h = room in omega (arith, h)
-
-pub loop-k-preserved : goal.loop-k-preserved
-loop-k-preserved c =
-    let left : c.loop-k.k.at < get_or c.args.lengths.now c.args.t 0 = subst (λ (i : ℕ). c.loop-k.k.at < get_or c.args.lengths.now i 0) c.wide.ensures.same c.loop-k-test.true in
+pub returns-clause-within : goal.returns-clause-within
+returns-clause-within c =
     let a = c.args in
-    let loop = c.loop-k in
-    let step = c.lean_step-m in (
-      length-set loop.schedule loop.n a.t ∙ loop.invariant.0,
-      λ class threads groups x p v at of.
-          ran_step a.code.now a.lengths.now class threads groups x p v a.t a.r.failed loop.k loop.memory loop.schedule loop.n loop.failed (loop.invariant.1 class threads groups x p v at of) c.requires.1
-          (left) loop.invariant.0 step.result step.ensures loop.failed (or-fine loop.failed step.result.thread.failed c.if-k.false),
+    let q = c.requires.0 in
+    running_most a.program.now.code a.program.now.lengths q.0 q.1 q.2 q.3 q.4 q.5 a.t (from a.r.failed c.loop-r.r) (c.loop-r.invariant.1 q.0 q.1 q.2 q.3 q.4 q.5 q.6 q.7).run
+
+pub returns-clause-last : goal.returns-clause-last
+returns-clause-last c class threads groups x p v at of s =
+    let a = c.args in
+    let now = c.loop-r in
+    let over = subst (λ (i : ℕ). get_or a.program.now.lengths i 0 ≤ now.r.thread.at) c.wide.ensures.same c.loop-r-test.false in
+    let ran = now.invariant.1 class threads groups x p v at of in (
+      ran_numbers a.program.now.code a.program.now.lengths class threads groups x p v a.t a.r.failed now.r ran c.requires.1 over s,
+      ran_found a.program.now.code a.program.now.lengths class threads groups x p v a.t a.r.failed now.r ran c.requires.1 over s,
     )
-
-pub returns : goal.returns
-returns c =
-    let known : Type 0 = let a = c.args in
-    let q = c.requires.0 in
-    Ran a.code.now a.lengths.now q.0 q.1 q.2 q.3 q.4 q.5 a.t a.r.failed c.loop-k.k c.loop-k.memory c.loop-k.schedule c.loop-k.n c.loop-k.failed in
-    let one : known = let q = c.requires.0 in c.loop-k.invariant.1 q.0 q.1 q.2 q.3 q.4 q.5 q.6 (apart q.3 c.args.t c.args.r q.7) in
-    let most : c.loop-k.n ≤ 24 = let a = c.args in
-    let q = c.requires.0 in
-    running_most a.code.now a.lengths.now q.0 q.1 q.2 q.3 q.4 q.5 a.t (parts c.loop-k.k c.loop-k.memory c.loop-k.schedule c.loop-k.n a.r.failed) (one).run in
-    let a = c.args in
-    let loop = c.loop-k in
-    let over = subst (λ (i : ℕ). get_or a.lengths.now i 0 ≤ loop.k.at) c.wide.ensures.same c.loop-k-test.false in
-    let e = c.runner_at.ensures in record {
-      within = omega (arith, most, ap (λ (r : Runner). r.steps) e);
-      last = λ class threads groups x p v at of s.
-          let ran = loop.invariant.1 class threads groups x p v at (apart x a.t a.r of) in
-          subst (λ (y : Runner). Wrapped (charged a.r.failed (numbers_at p v)) 1 (cond y.failed 1 0)
-          × (a.r.failed ≡ fails (end_of p v) → found_behind true p x.steps none v ≡ cond y.failed (take y.steps y.schedule ∷ []) [])) (sym e) (
-            ran_numbers a.code.now a.lengths.now class threads groups x p v a.t a.r.failed loop.k loop.memory loop.schedule loop.n loop.failed ran c.requires.1 over s,
-            ran_found a.code.now a.lengths.now class threads groups x p v a.t a.r.failed loop.k loop.memory loop.schedule loop.n loop.failed ran c.requires.1 over s,
-          );
-    }

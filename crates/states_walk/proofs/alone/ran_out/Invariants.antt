@@ -6,14 +6,14 @@ use Rattle.spec_schedules.specs.Order.{Schedule}
 use Rattle.search_place.specs.Reached.{Reached}
 use Rattle.search_place.specs.declared.place.Place.{Place}
 use Rattle.search_tail.specs.Runner.{RunnerOf}
-use Rattle.states_walk.proofs.LastNumbers.{parts, Ran}
+use Rattle.states_walk.proofs.LastNumbers.{Ran}
 use Rattle.states_walk.proofs.alone.ran_out.Given as goal
 
-abbrev pub invariant-loop-k : goal.invariant-loop-k
-invariant-loop-k l =
-    (length l.schedule ≡ 24)
-    × ((class : List ℕ) (threads groups : ℕ) (x : Place) (p : Program) (v : Schedule) → Reached l.code l.lengths class threads groups x p v
-    → RunnerOf x l.t (parts l.initial.k l.initial.memory l.initial.schedule l.initial.n l.initial.failed) → Ran l.code l.lengths class threads groups x p v l.t l.initial.failed l.k l.memory l.schedule l.n l.failed)
+abbrev pub invariant-loop-r : goal.invariant-loop-r
+invariant-loop-r l =
+    (length l.r.schedule ≡ 24)
+    × ((class : List ℕ) (threads groups : ℕ) (x : Place) (p : Program) (v : Schedule) → Reached l.program.code l.program.lengths class threads groups x p v
+    → RunnerOf x l.t l.initial.r → Ran l.program.code l.program.lengths class threads groups x p v l.t l.initial.r.failed l.r)
 
-abbrev pub decreases-loop-k : goal.decreases-loop-k
-decreases-loop-k l = 24 - l.n
+abbrev pub decreases-loop-r : goal.decreases-loop-r
+decreases-loop-r l = 24 - l.r.steps

@@ -22,7 +22,7 @@ returns c =
       first = (
         behind.ensures.words.1,
         (behind.ensures.first program.threads program.groups p [] m.stands (subst (λ (n : ℕ). Wide n p) (sym shape.ensures) m.wide) (marked_none p shape.result.width shape.result.slots _ c.clear.ensures.nothing)).0
-            ∙ start_first p c.requires c.made-m.result.spot.steps m.stands.reached.counted,
+            ∙ start_first p c.requires c.made-m.result.spot.place.steps m.stands.reached.counted,
       );
       zeros = c.clear-2.ensures.zeros ∙ ap (λ (n : ℕ). replicate n 0) (behind.ensures.words.0 ∙ ap length c.clear.ensures.zeros ∙ length-replicate {A = ℕ} (length c.args.table.now) 0);
     }

@@ -5,18 +5,15 @@ use Rattle.states_walk.proofs.FirstFound.{Left}
 use Rattle.states_walk.proofs.seeking.+first_among_first_behind_first_with.Given as goal
 
 abbrev pub decreases-first_among : goal.decreases-first_among
-decreases-first_among l = (24 - l.x.steps) + (24 - l.x.steps) + (24 - l.x.steps) + 1
+decreases-first_among l = (24 - l.x.now.place.steps) + (24 - l.x.now.place.steps) + (24 - l.x.now.place.steps) + 1
 
 abbrev pub decreases-first_behind : goal.decreases-first_behind
-decreases-first_behind l = (24 - l.x.steps) + (24 - l.x.steps) + (24 - l.x.steps) + 2
+decreases-first_behind l = (24 - l.x.now.place.steps) + (24 - l.x.now.place.steps) + (24 - l.x.now.place.steps) + 2
 
 abbrev pub decreases-first_with : goal.decreases-first_with
-decreases-first_with l = (24 - l.x.steps) + (24 - l.x.steps) + (24 - l.x.steps)
+decreases-first_with l = (24 - l.x.now.place.steps) + (24 - l.x.now.place.steps) + (24 - l.x.now.place.steps)
 
 -- ---- first_among
 abbrev pub invariant-first_among-loop-t : goal.invariant-first_among-loop-t
 invariant-first_among-loop-t l =
-    (length l.table ≡ length l.initial.table) × Left l.code l.lengths l.class l.shape.width l.shape.slots l.x l.initial.table l.table l.t
-
-abbrev pub decreases-first_among-loop-t : goal.decreases-first_among-loop-t
-decreases-first_among-loop-t l = 6 - l.t
+    (length l.table ≡ length l.initial.table) × Left l.setup.program.code l.setup.program.lengths l.setup.program.class l.shape.width l.shape.slots l.x l.initial.table l.table l.t

@@ -8,4 +8,4 @@ pub returns : goal.returns
 returns c code threads groups n p v st lives fits most =
     let a = c.args in
     c.words_of.ensures code threads groups n p v st
-    (c.values_of-values.ensures ∙ ap (padded 32) (gathered_held code a.lengths.now a.class.now threads groups a.x p v st a.masks.now lives)) fits most
+    (c.values_of-values.ensures ∙ ap (padded 32) (gathered_held code a.lengths.now a.class.now threads groups a.x.now p v st a.masks.now lives)) fits most

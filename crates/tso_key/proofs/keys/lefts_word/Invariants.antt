@@ -6,6 +6,3 @@ use Rattle.tso_key.proofs.keys.lefts_word.Given as goal
 
 abbrev pub invariant-loop-t : goal.invariant-loop-t
 invariant-loop-t l = (l.t ≤ 6) × (l.word ≡ fives (λ i. get_or l.lengths i 0 - (get_or l.threads i idle).at) l.t []) × (l.word < 32 ^ (6 - l.t))
-
-abbrev pub decreases-loop-t : goal.decreases-loop-t
-decreases-loop-t l = l.t

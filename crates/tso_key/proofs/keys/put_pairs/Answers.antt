@@ -1,65 +1,10 @@
-use Rattle.std.proofs.Common.{rules, ℕ, ◌+◌, ◌*◌, ◌<◌, ◌≡◌, ap, ◌∙◌, ◌++◌, arith, length, take}
+use Rattle.std.proofs.Common.{ℕ, ◌+◌, ◌*◌, ◌<◌, ◌≡◌, ap, ◌∙◌, ◌++◌, arith, length, take}
 use Rattle.theory_sc_key.specs.Key.{pairs, padded}
 use Rattle.tso_key.proofs.Filled.{pairs_none, pairs_more}
 use Rattle.tso_key.proofs.keys.put_pairs.Goals as goal
 
 pub loop-i-init : goal.loop-i-init
 loop-i-init c = (omega arith, λ l e q. q ∙ pairs_none c.args.values.now l)
-
-pub overflow_mul-i : goal.overflow_mul-i
-overflow_mul-i c =
-    let two : (c.loop-i.i * 2 + 1 < length c.args.values.now) × (c.args.at + c.loop-i.i < 27) = let p = c.requires in let t = c.loop-i-test.true in (omega (arith, p.1, t), omega (arith, p.0, t)) in
-    let b = two in search rules
-
-pub offset_bounds-values-i : goal.offset_bounds-values-i
-offset_bounds-values-i c =
-    let two : (c.loop-i.i * 2 + 1 < length c.args.values.now) × (c.args.at + c.loop-i.i < 27) = let p = c.requires in let t = c.loop-i-test.true in (omega (arith, p.1, t), omega (arith, p.0, t)) in
-    let b = two in search rules
-
-pub bounds-values-i : goal.bounds-values-i
-bounds-values-i c =
-    let two : (c.loop-i.i * 2 + 1 < length c.args.values.now) × (c.args.at + c.loop-i.i < 27) = let p = c.requires in let t = c.loop-i-test.true in (omega (arith, p.1, t), omega (arith, p.0, t)) in
-    let b = two in search rules
-
-pub overflow_mul-i-in-loop-i : goal.overflow_mul-i-in-loop-i
-overflow_mul-i-in-loop-i c =
-    let two : (c.loop-i.i * 2 + 1 < length c.args.values.now) × (c.args.at + c.loop-i.i < 27) = let p = c.requires in let t = c.loop-i-test.true in (omega (arith, p.1, t), omega (arith, p.0, t)) in
-    let b = two in search rules
-
-pub overflow_add-i : goal.overflow_add-i
-overflow_add-i c =
-    let two : (c.loop-i.i * 2 + 1 < length c.args.values.now) × (c.args.at + c.loop-i.i < 27) = let p = c.requires in let t = c.loop-i-test.true in (omega (arith, p.1, t), omega (arith, p.0, t)) in
-    let b = two in search rules
-
-pub offset_bounds-values-i-in-loop-i : goal.offset_bounds-values-i-in-loop-i
-offset_bounds-values-i-in-loop-i c =
-    let two : (c.loop-i.i * 2 + 1 < length c.args.values.now) × (c.args.at + c.loop-i.i < 27) = let p = c.requires in let t = c.loop-i-test.true in (omega (arith, p.1, t), omega (arith, p.0, t)) in
-    let b = two in search rules
-
-pub bounds-values-i-in-loop-i : goal.bounds-values-i-in-loop-i
-bounds-values-i-in-loop-i c =
-    let two : (c.loop-i.i * 2 + 1 < length c.args.values.now) × (c.args.at + c.loop-i.i < 27) = let p = c.requires in let t = c.loop-i-test.true in (omega (arith, p.1, t), omega (arith, p.0, t)) in
-    let b = two in search rules
-
-pub overflow_add-words : goal.overflow_add-words
-overflow_add-words c =
-    let two : (c.loop-i.i * 2 + 1 < length c.args.values.now) × (c.args.at + c.loop-i.i < 27) = let p = c.requires in let t = c.loop-i-test.true in (omega (arith, p.1, t), omega (arith, p.0, t)) in
-    let b = two in search rules
-
-pub offset_bounds-words-at : goal.offset_bounds-words-at
-offset_bounds-words-at c =
-    let two : (c.loop-i.i * 2 + 1 < length c.args.values.now) × (c.args.at + c.loop-i.i < 27) = let p = c.requires in let t = c.loop-i-test.true in (omega (arith, p.1, t), omega (arith, p.0, t)) in
-    let b = two in search rules
-
-pub bounds-words-at : goal.bounds-words-at
-bounds-words-at c =
-    let two : (c.loop-i.i * 2 + 1 < length c.args.values.now) × (c.args.at + c.loop-i.i < 27) = let p = c.requires in let t = c.loop-i-test.true in (omega (arith, p.1, t), omega (arith, p.0, t)) in
-    let b = two in search rules
-
-pub overflow_add-i-in-loop-i : goal.overflow_add-i-in-loop-i
-overflow_add-i-in-loop-i c =
-    let two : (c.loop-i.i * 2 + 1 < length c.args.values.now) × (c.args.at + c.loop-i.i < 27) = let p = c.requires in let t = c.loop-i-test.true in (omega (arith, p.1, t), omega (arith, p.0, t)) in
-    let b = two in search rules
 
 pub loop-i-preserved : goal.loop-i-preserved
 loop-i-preserved c =

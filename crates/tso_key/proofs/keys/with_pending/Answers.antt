@@ -13,33 +13,6 @@ overflow_mul-word c =
     fives_below (l.t - 1) (l.word * 32 + s) (fives_room 12 l.t l.word s t (omega (arith, l.invariant.0)) l.invariant.2 h) in
     let b = more 0 (omega arith) in search rules
 
-pub overflow_sub-word : goal.overflow_sub-word
-overflow_sub-word c =
-    let ends : let a = c.args in let t = c.loop-t.t - 1 in (get_or a.heads.now t 0 ≤ get_or a.tails.now t 0) × (get_or a.tails.now t 0 ≤ 16) = let l = c.loop-t in c.requires.1 (l.t - 1) (omega (arith, l.invariant.0, c.loop-t-test.true)) in
-    let b = (ends).0 in search rules
-
-pub overflow_cast-word : goal.overflow_cast-word
-overflow_cast-word c =
-    let ends : let a = c.args in let t = c.loop-t.t - 1 in (get_or a.heads.now t 0 ≤ get_or a.tails.now t 0) × (get_or a.tails.now t 0 ≤ 16) = let l = c.loop-t in c.requires.1 (l.t - 1) (omega (arith, l.invariant.0, c.loop-t-test.true)) in
-    let a = c.args in
-    let t : ℕ = c.loop-t.t - 1 in
-    let e = ends in
-    let b : get_or a.tails.now t 0 - get_or a.heads.now t 0 < 32 = omega (arith, e.0, e.1) in
-    search rules
-
-pub overflow_add-word : goal.overflow_add-word
-overflow_add-word c =
-    let more : (s : ℕ) → s < 32 → c.loop-t.word * 32 + s < 2 ^ 60 = λ s h.
-    let l = c.loop-t in
-    let t = c.loop-t-test.true in
-    fives_below (l.t - 1) (l.word * 32 + s) (fives_room 12 l.t l.word s t (omega (arith, l.invariant.0)) l.invariant.2 h) in
-    let ends : let a = c.args in let t = c.loop-t.t - 1 in (get_or a.heads.now t 0 ≤ get_or a.tails.now t 0) × (get_or a.tails.now t 0 ≤ 16) = let l = c.loop-t in c.requires.1 (l.t - 1) (omega (arith, l.invariant.0, c.loop-t-test.true)) in
-    let a = c.args in
-    let t : ℕ = c.loop-t.t - 1 in
-    let e = ends in
-    let b = more (get_or a.tails.now t 0 - get_or a.heads.now t 0) (omega (arith, e.0, e.1)) in
-    search rules
-
 pub loop-t-preserved : goal.loop-t-preserved
 loop-t-preserved c =
     let ends : let a = c.args in let t = c.loop-t.t - 1 in (get_or a.heads.now t 0 ≤ get_or a.tails.now t 0) × (get_or a.tails.now t 0 ≤ 16) = let l = c.loop-t in c.requires.1 (l.t - 1) (omega (arith, l.invariant.0, c.loop-t-test.true)) in

@@ -6,6 +6,3 @@ use Rattle.tso_key.proofs.keys.with_pending.Given as goal
 
 abbrev pub invariant-loop-t : goal.invariant-loop-t
 invariant-loop-t it = (it.t ≤ 6) × ((l : List ℕ) → it.lefts ≡ number 32 l → it.word ≡ fives (λ i. get_or it.tails i 0 - get_or it.heads i 0) it.t l) × (it.word < 32 ^ (12 - it.t))
-
-abbrev pub decreases-loop-t : goal.decreases-loop-t
-decreases-loop-t l = l.t

@@ -11,36 +11,36 @@ use Rattle.tso_key.specs.Carried.{queues_to}
 use Rattle.tso_key.proofs.Whole.{shaped, short_held, ends_held, sixteen_held, slots_held, stored_held, first_held, second_held, places_word, words_held}
 use Rattle.tso_key.proofs.keys.words_of.Goals as goal
 
-pub sets_word-first-requires : goal.sets_word-first-requires
-sets_word-first-requires c = c.near_word.ensures.0
+pub sets_word-requires : goal.sets_word-requires
+sets_word-requires c = c.near_word-near.ensures.0
 
-pub lefts_word-requires : goal.lefts_word-requires
-lefts_word-requires c = let a = c.args in let q = c.requires in short_held q.0 a.lengths.now a.class.now q.1 q.2 a.x q.3 q.4 q.5
+pub lefts_word-lefts-requires : goal.lefts_word-lefts-requires
+lefts_word-lefts-requires c = let a = c.args in let q = c.requires in short_held q.0 a.lengths.now a.class.now q.1 q.2 a.x.now q.3 q.4 q.5
 
-pub with_pending-second-requires : goal.with_pending-second-requires
-with_pending-second-requires c = let a = c.args in let q = c.requires in (c.lefts_word.ensures.1, ends_held q.0 a.lengths.now a.class.now q.1 q.2 a.x q.3 q.4 q.5)
+pub with_pending-requires : goal.with_pending-requires
+with_pending-requires c = let a = c.args in let q = c.requires in (c.lefts_word-lefts.ensures.1, ends_held q.0 a.lengths.now a.class.now q.1 q.2 a.x.now q.3 q.4 q.5)
 
 pub waiting_of-requires : goal.waiting_of-requires
 waiting_of-requires c =
     let a = c.args in
     let q = c.requires in
-    (ends_held q.0 a.lengths.now a.class.now q.1 q.2 a.x q.3 q.4 q.5, sixteen_held q.0 a.lengths.now a.class.now q.1 q.2 a.x q.3 q.4 q.5, slots_held q.0 a.lengths.now a.class.now q.1 q.2 a.x q.3 q.4 q.5)
+    (ends_held q.0 a.lengths.now a.class.now q.1 q.2 a.x.now q.3 q.4 q.5, sixteen_held q.0 a.lengths.now a.class.now q.1 q.2 a.x.now q.3 q.4 q.5, slots_held q.0 a.lengths.now a.class.now q.1 q.2 a.x.now q.3 q.4 q.5)
 
 pub joined-requires : goal.joined-requires
 joined-requires c =
     let a = c.args in
     let q = c.requires in
-    omega (arith, c.waiting_of.ensures.2, sixteen_held q.0 a.lengths.now a.class.now q.1 q.2 a.x q.3 q.4 q.5)
+    omega (arith, c.waiting_of.ensures.2, sixteen_held q.0 a.lengths.now a.class.now q.1 q.2 a.x.now q.3 q.4 q.5)
 
 pub returns : goal.returns
 returns c code threads groups n p v st ev fits most =
     let a = c.args in
-    let x = a.x in
+    let x = a.x.now in
     let w = c.waiting_of in
-    let pending = c.with_pending-second in
-    let lefts = c.lefts_word in
-    let sets = c.sets_word-first in
-    let near = c.near_word in
+    let pending = c.with_pending in
+    let lefts = c.lefts_word-lefts in
+    let sets = c.sets_word in
+    let near = c.near_word-near in
     let all = join (queues_to x.place.slots x.place.heads x.place.tails 6) in
     let first = first_held code a.lengths.now a.class.now threads groups x p v st near.result (near.ensures.1 groups p st.reached.lines) sets.result sets.ensures in
     let second = second_held code a.lengths.now a.class.now threads groups x p v st pending.result (pending.ensures (left_at a.lengths.now x.place.threads) lefts.ensures.0) in

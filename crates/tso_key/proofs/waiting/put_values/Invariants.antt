@@ -8,6 +8,3 @@ use Rattle.tso_key.proofs.waiting.put_values.Given as goal
 abbrev pub invariant-loop-i : goal.invariant-loop-i
 invariant-loop-i it =
     (it.head ≤ it.i) × (it.i ≤ it.tail) × (it.at ≡ it.n + (it.i - it.head)) × ((l : List ℕ) → length l ≡ it.n → it.initial.values ≡ padded 16 l → it.values ≡ padded 16 (l ++ stored (queue_at it.slots it.head (it.i - it.head))))
-
-abbrev pub decreases-loop-i : goal.decreases-loop-i
-decreases-loop-i l = l.tail - l.i

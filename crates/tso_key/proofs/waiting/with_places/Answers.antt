@@ -8,7 +8,7 @@ pub loop-i-init : goal.loop-i-init
 loop-i-init c =
     let a = c.args in
     let e : a.n ≡ a.n + (a.head - a.head) = omega arith in
-    (omega arith, c.requires.0, places_none a.slots a.head a.places, subst (λ (k : ℕ). a.places < 8 ^ k) e c.requires.3)
+    (omega arith, c.requires.0, places_none a.slots.now a.head a.places, subst (λ (k : ℕ). a.places < 8 ^ k) e c.requires.3)
 
 pub overflow_mul-word : goal.overflow_mul-word
 overflow_mul-word c =
@@ -34,8 +34,8 @@ loop-i-preserved c =
     let t = c.loop-i-test.true in (
       omega (arith, l.invariant.0),
       omega (arith, t),
-      places_more a.slots a.head l.i l.invariant.0 a.places l.word l.invariant.2,
-      places_room a.slots a.head l.i l.invariant.0 a.n l.word _ l.invariant.3 (p.4 l.i (omega (arith, t, p.1))),
+      places_more a.slots.now a.head l.i l.invariant.0 a.places l.word l.invariant.2,
+      places_room a.slots.now a.head l.i l.invariant.0 a.n l.word _ l.invariant.3 (p.4 l.i (omega (arith, t, p.1))),
     )
 
 pub returns : goal.returns
@@ -43,4 +43,4 @@ returns c =
     let a = c.args in
     let l = c.loop-i in
     let e : l.i ≡ a.tail = omega (arith, l.invariant.1, c.loop-i-test.false) in
-    (l.invariant.2 ∙ ap (λ (k : ℕ). appended 8 a.places (locations (queue_at a.slots a.head (k - a.head)))) e, subst (λ (k : ℕ). l.word < 8 ^ (a.n + (k - a.head))) e l.invariant.3)
+    (l.invariant.2 ∙ ap (λ (k : ℕ). appended 8 a.places (locations (queue_at a.slots.now a.head (k - a.head)))) e, subst (λ (k : ℕ). l.word < 8 ^ (a.n + (k - a.head))) e l.invariant.3)

@@ -6,6 +6,3 @@ use Rattle.tso_key.proofs.waiting.with_places.Given as goal
 
 abbrev pub invariant-loop-i : goal.invariant-loop-i
 invariant-loop-i l = (l.head ≤ l.i) × (l.i ≤ l.tail) × (l.word ≡ appended 8 l.places (locations (queue_at l.slots l.head (l.i - l.head)))) × (l.word < 8 ^ (l.n + (l.i - l.head)))
-
-abbrev pub decreases-loop-i : goal.decreases-loop-i
-decreases-loop-i l = l.tail - l.i

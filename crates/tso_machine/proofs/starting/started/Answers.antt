@@ -3,4 +3,4 @@ use Rattle.tso_machine.proofs.HeldFirst.{first_held}
 use Rattle.tso_machine.proofs.starting.started.Goals as goal
 
 pub returns : goal.returns
-returns c = λ p loaded e few. first_held c.args.code.now c.args.lengths.now c.args.threads p loaded few c.started-m.result (c.started-m.ensures.1 p loaded e) c.first_slots-first.result c.first_slots-first.ensures
+returns c = λ p loaded e few. first_held c.args.program.now.code c.args.program.now.lengths c.args.program.now.threads p loaded few c.started.result (c.started.ensures.1 p loaded e) c.first_slots-first.result c.first_slots-first.ensures

@@ -21,5 +21,5 @@ high b h = go (byte_case b)
 pub returns-then-b-lt16 : goal.returns-then-b-lt16
 returns-then-b-lt16 c = low c.args.b c.if-b-lt16.true
 
-pub returns : goal.returns
-returns c = high c.args.b c.if-b-lt16.false
+pub returns-else-b-lt16 : goal.returns-else-b-lt16
+returns-else-b-lt16 c = high c.args.b c.if-b-lt16.false

@@ -1,17 +1,13 @@
--- `access_goes_on` asks first whether the thread is in the set.
-use Rattle.std.proofs.Common.{sym, ap, ◌∙◌, not}
-use borrow.Author.Tests.{not-true, not-false}
+-- In the set, where the thread stands so.
+use Rattle.std.proofs.Common.{ℕ, List, sym, ap, ap₂, not, get_or}
+use Rattle.machine.specs.Held.{idle}
+use Rattle.machine_access.specs.declared.thread.ThreadState.{ThreadState}
 use Rattle.tso_order.proofs.freeing.access_goes_on.Goals as goal
 
-pub returns-then-not-is_in : goal.returns-then-not-is_in
-returns-then-not-is_in c =
-    let q = sym c.is_in.ensures ∙ not-true c.is_in.result c.if-not-is_in.true-raw in
-    λ lengths m σ held ek em hold may. rw q
-
-pub access_waits-requires : goal.access_waits-requires
-access_waits-requires c = (c.requires.0, c.requires.1 (sym c.is_in.ensures ∙ not-false c.is_in.result c.if-not-is_in.false-raw))
-
-pub returns : goal.returns
-returns c =
-    let is = sym c.is_in.ensures ∙ not-false c.is_in.result c.if-not-is_in.false-raw in
-    λ lengths m σ held ek em hold may. rw is (ap not (c.access_waits.ensures lengths m σ held ek em hold (may is)))
+pub returns-then-is_in : goal.returns-then-is_in
+returns-then-is_in c =
+    let is = sym c.if-is_in.ensures in
+    record {
+      says = λ lengths m σ held et em hold may. rw is (ap not (c.access_waits.ensures lengths m σ held
+          (ap₂ (λ (ts : List ThreadState) (i : ℕ). get_or ts i idle) et (sym c.wide.ensures.same)) em hold (may is)));
+    }

@@ -6,8 +6,8 @@ use Rattle.states_outcomes.specs.Rows.{is_new}
 use Rattle.tso_outcomes.proofs.FromStart.{from_start}
 use Rattle.tso_outcomes.proofs.first.first_new.Goals as goal
 
-pub new_behind-r-requires : goal.new_behind-r-requires
-new_behind-r-requires c =
+pub new_behind-requires : goal.new_behind-requires
+new_behind-requires c =
     let a = c.args in
     let pre = c.requires in
     (from_start a.program a.m pre.1 a.frame.width pre.2, pre.1.left, pre.1.live, subst (λ (i : ℕ). i ≤ 27) (sym pre.2) pre.1.few, pre.3, pre.4)
@@ -16,7 +16,7 @@ pub returns : goal.returns
 returns c =
     let a = c.args in
     let pre = c.requires in
-    let behind = c.new_behind-r in record {
+    let behind = c.new_behind in record {
       words = behind.ensures.words;
       first = λ marks.
           let r = behind.ensures.first (from_start a.program a.m pre.1 a.frame.width pre.2) marks in

@@ -6,5 +6,5 @@ use Rattle.tso_outcomes.proofs.flagging.outcome_key.Goals as goal
 
 pub returns : goal.returns
 returns c = λ code threads groups n p v at live fit most e.
-    ap (λ (x : ℕ). take n (set c.key-k.result 0 x)) c.flag-first.ensures ∙ flagged_front _ n c.key-k.result
+    ap (λ (x : ℕ). take n (set c.key-k.result 0 x)) c.flag.ensures ∙ flagged_front _ n c.key-k.result
     ∙ ap₂ flagged e (c.key-k.ensures code threads groups n p v at live fit most)

@@ -6,15 +6,12 @@ use Rattle.tso_outcomes.proofs.FirstNew.{Still}
 use Rattle.tso_outcomes.proofs.walking.+new_behind_new_with.Given as goal
 
 abbrev pub decreases-new_behind : goal.decreases-new_behind
-decreases-new_behind l = let n : ℕ = 32 - l.x.place.steps in n + n + 1
+decreases-new_behind l = let n : ℕ = 32 - l.x.now.place.steps in n + n + 1
 
 abbrev pub decreases-new_with : goal.decreases-new_with
-decreases-new_with l = let n : ℕ = 32 - l.x.place.steps in n + n
+decreases-new_with l = let n : ℕ = 32 - l.x.now.place.steps in n + n
 
 -- ---- new_behind
 abbrev pub invariant-new_behind-loop-b : goal.invariant-new_behind-loop-b
 invariant-new_behind-loop-b l =
-    Kept l.frame.cut l.initial.lent l.lent × Still l.code l.lengths l.class l.frame l.x (take l.frame.cut l.initial.lent) l.initial.lent l.lent l.b
-
-abbrev pub decreases-new_behind-loop-b : goal.decreases-new_behind-loop-b
-decreases-new_behind-loop-b l = 22 - l.b
+    Kept l.frame.cut l.initial.lent l.lent × Still l.setup.program.code l.setup.program.lengths l.setup.program.class l.frame l.x (take l.frame.cut l.initial.lent) l.initial.lent l.lent l.b

@@ -1,89 +1,58 @@
-use Rattle.std.proofs.Common.{arith, refl, sym, subst, ◌∙◌}
-use Rattle.tso_replay.specs.Carried.{HoldsRun}
-use Rattle.tso_replay.proofs.HeldReplay.{progress_start, notes_room, replay_stops, replay_may, replay_room, replay_more, replay_whole, replay_short, replay_held}
+use Rattle.std.proofs.Common.{arith, refl, sym, ◌∙◌}
+use Rattle.tso_replay.proofs.HeldReplay.{progress_start, notes_room, replay_stops, replay_room, replay_more, replay_whole, replay_short}
 use Rattle.tso_replay.proofs.replaying.replayed.Goals as goal
 
-pub started-m-requires : goal.started-m-requires
-started-m-requires c = (c.requires.0, c.requires.1)
-
-pub loop-k-init : goal.loop-k-init
-loop-k-init c = λ p loaded few held. progress_start c.args.code.now c.args.lengths.now p c.args.schedule.now c.started-m.result _ _ held refl refl
-
-pub enabled-requires : goal.enabled-requires
-enabled-requires c =
-    let pre = c.requires in
-    replay_held (c.loop-k.invariant pre.0 pre.1 pre.3 (c.started-m.ensures pre.0 pre.1 pre.2 pre.3))
+pub loop-b-init : goal.loop-b-init
+loop-b-init c = (refl, λ p loaded few held. progress_start c.args.program.now.code c.args.program.now.lengths p c.args.schedule.now c.started.result _ _ held refl refl)
 
 pub returns-then-not-enabled : goal.returns-then-not-enabled
 returns-then-not-enabled c =
     let i = c.args in
-    let j = c.loop-k in
-    let began = c.started-m.ensures in
+    let j = c.loop-b in
     λ p loaded e few.
-    let done = j.invariant p loaded few (began p loaded e few) in
-    subst (HoldsRun i.code.now i.lengths.now p i.schedule.now) (sym c.ended_here.ensures)
-    (replay_stops i.code.now i.lengths.now i.threads p loaded few i.schedule.now j.m j.log j.count j.made j.k done c.loop-k-test.true
-    (sym (c.enabled.ensures _ done.holds) ∙ c.if-not-enabled.true))
+    let done = j.invariant.1 p loaded few (c.started.ensures p loaded e few) in
+    replay_stops i.program.now.code i.program.now.lengths i.program.now.threads p loaded few i.schedule.now j.run done j.b-index j.invariant.0 c.loop-b-test.true
+    (sym (c.enabled.ensures _ done.holds) ∙ c.if-not-enabled.true)
 
-pub step-r-requires : goal.step-r-requires
-step-r-requires c =
+pub bounds-run-run : goal.bounds-run-run
+bounds-run-run c =
     let i = c.args in
-    let j = c.loop-k in
     let pre = c.requires in
-    let done = j.invariant pre.0 pre.1 pre.3 (c.started-m.ensures pre.0 pre.1 pre.2 pre.3) in
-    replay_may i.code.now i.lengths.now i.threads pre.0 pre.1 pre.3 i.schedule.now j.m j.log j.count j.made j.k done c.loop-k-test.true
+    let done = c.loop-b.invariant.1 pre.0 pre.1 pre.3 (c.started.ensures pre.0 pre.1 pre.2 pre.3) in
+    replay_room i.program.now.code i.program.now.lengths i.program.now.threads pre.0 pre.1 pre.3 i.schedule.now c.loop-b.run done c.loop-b.b-index c.loop-b.invariant.0 c.loop-b-test.true
     (sym (c.enabled.ensures _ done.holds) ∙ c.if-not-enabled.false)
 
-pub bounds-made-k : goal.bounds-made-k
-bounds-made-k c =
+pub note_step-requires : goal.note_step-requires
+note_step-requires c =
     let i = c.args in
-    let j = c.loop-k in
     let pre = c.requires in
-    let done = j.invariant pre.0 pre.1 pre.3 (c.started-m.ensures pre.0 pre.1 pre.2 pre.3) in
-    replay_room i.code.now i.lengths.now i.threads pre.0 pre.1 pre.3 i.schedule.now j.m j.log j.count j.made j.k done c.loop-k-test.true
-    (sym (c.enabled.ensures _ done.holds) ∙ c.if-not-enabled.false)
+    notes_room i.program.now.code i.program.now.lengths i.program.now.threads pre.0 pre.1 pre.3 i.schedule.now c.loop-b.run (c.loop-b.invariant.1 pre.0 pre.1 pre.3 (c.started.ensures pre.0 pre.1 pre.2 pre.3))
 
-pub note_step-count-requires : goal.note_step-count-requires
-note_step-count-requires c =
+pub loop-b-preserved : goal.loop-b-preserved
+loop-b-preserved c =
     let i = c.args in
-    let j = c.loop-k in
-    let pre = c.requires in
-    let done = j.invariant pre.0 pre.1 pre.3 (c.started-m.ensures pre.0 pre.1 pre.2 pre.3) in
-    notes_room i.code.now i.lengths.now i.threads pre.0 pre.1 pre.3 i.schedule.now j.m j.log j.count j.made j.k done
+    let j = c.loop-b in (
+      omega (arith, j.invariant.0),
+      λ p loaded few held.
+          let done = j.invariant.1 p loaded few held in
+          replay_more i.program.now.code i.program.now.lengths i.program.now.threads p loaded few i.schedule.now j.run done j.b-index j.invariant.0 c.loop-b-test.true
+          (sym (c.enabled.ensures _ done.holds) ∙ c.if-not-enabled.false) c.step-r.result c.step-r.ensures _ c.note_step.result c.note_step.ensures.count c.note_step.ensures.log,
+    )
 
-pub overflow_add-k : goal.overflow_add-k
-overflow_add-k c =
-    let pre = c.requires in
-    let done = c.loop-k.invariant pre.0 pre.1 pre.3 (c.started-m.ensures pre.0 pre.1 pre.2 pre.3) in
-    omega (arith, done.few)
-
-pub loop-k-preserved : goal.loop-k-preserved
-loop-k-preserved c =
+pub returns-then-not-ended_all : goal.returns-then-not-ended_all
+returns-then-not-ended_all c =
     let i = c.args in
-    let j = c.loop-k in
-    λ p loaded few held.
-    let done = j.invariant p loaded few held in
-    replay_more i.code.now i.lengths.now i.threads p loaded few i.schedule.now j.m j.log j.count j.made j.k done c.loop-k-test.true
-    (sym (c.enabled.ensures _ done.holds) ∙ c.if-not-enabled.false) c.step-r.result c.step-r.ensures _ c.note_step-count.result c.note_step-count.ensures.count c.note_step-count.ensures.log
-
-pub returns-then-ended_all : goal.returns-then-ended_all
-returns-then-ended_all c =
-    let i = c.args in
-    let j = c.loop-k in
-    let began = c.started-m.ensures in
+    let j = c.loop-b in
     λ p loaded e few.
-    let done = j.invariant p loaded few (began p loaded e few) in
-    subst (HoldsRun i.code.now i.lengths.now p i.schedule.now) (sym c.ended_here-then-ended_all.ensures)
-    (replay_whole i.code.now i.lengths.now i.threads p loaded few i.schedule.now j.m j.log j.count j.made j.k done c.loop-k-test.false
-    (sym (c.ended_all.ensures i.code.now _ done.holds) ∙ c.if-ended_all.true))
+    let done = j.invariant.1 p loaded few (c.started.ensures p loaded e few) in
+    replay_short i.program.now.code i.program.now.lengths i.program.now.threads p loaded few i.schedule.now j.run done (omega (arith, j.invariant.0, c.loop-b-test.false))
+    (sym (c.ended_all.ensures i.program.now.code _ done.holds) ∙ c.if-not-ended_all.true)
 
-pub returns : goal.returns
-returns c =
+pub returns-else-not-ended_all : goal.returns-else-not-ended_all
+returns-else-not-ended_all c =
     let i = c.args in
-    let j = c.loop-k in
-    let began = c.started-m.ensures in
+    let j = c.loop-b in
     λ p loaded e few.
-    let done = j.invariant p loaded few (began p loaded e few) in
-    subst (HoldsRun i.code.now i.lengths.now p i.schedule.now) (sym c.ended_here-2.ensures)
-    (replay_short i.code.now i.lengths.now i.threads p loaded few i.schedule.now j.m j.log j.count j.made j.k done c.loop-k-test.false
-    (sym (c.ended_all.ensures i.code.now _ done.holds) ∙ c.if-ended_all.false))
+    let done = j.invariant.1 p loaded few (c.started.ensures p loaded e few) in
+    replay_whole i.program.now.code i.program.now.lengths i.program.now.threads p loaded few i.schedule.now j.run done (omega (arith, j.invariant.0, c.loop-b-test.false))
+    (sym (c.ended_all.ensures i.program.now.code _ done.holds) ∙ c.if-not-ended_all.false)

@@ -1,30 +1,30 @@
--- `is_some_access` asks each of the six.
-use Rattle.std.proofs.Common.{◌&&◌, arith}
+use Rattle.std.proofs.Common.{ℕ, ◌≡◌, sym, ◌∙◌, false, ◌&&◌, arith}
+use Rattle.spec_schedules.specs.Lists.{range}
 use Rattle.spec_schedules.specs.Sets.{has}
+use Rattle.spec_schedules.proofs.Lists.{in_range_lem, any_of}
+use Rattle.machine.proofs.HeldAsking.{one_more}
 use Rattle.spec_tso.specs.State.{byte_for, access}
 use Rattle.theory_tso.specs.Rules.{unwoken}
-use Rattle.tso_rules.proofs.Asleep.{set_some}
+use Rattle.tso_rules.proofs.Asleep.{any_none}
 use Rattle.tso_rules.proofs.sleeping.is_some_access.Goals as goal
 
-pub is_access_asleep-requires : goal.is_access_asleep-requires
-is_access_asleep-requires c = (omega arith, c.requires.0 0 (omega arith), c.requires.1, c.requires.2)
+pub returns-then-is_access_asleep : goal.returns-then-is_access_asleep
+returns-then-is_access_asleep c =
+    let a = c.args in
+    let t = c.loop-t.t in
+    λ σ left shown may. sym (any_of (λ (d : ℕ). has a.late d && unwoken σ (byte_for access d)) (range 0 6) t (in_range_lem 0 6 t (omega arith) (omega (arith, c.loop-t-test.true)))
+    (sym (c.is_access_asleep.ensures σ left shown (may t c.loop-t-test.true)) ∙ c.if-is_access_asleep.true))
 
-pub is_access_asleep-requires-2 : goal.is_access_asleep-requires-2
-is_access_asleep-requires-2 c = (omega arith, c.requires.0 1 (omega arith), c.requires.1, c.requires.2)
-
-pub is_access_asleep-requires-3 : goal.is_access_asleep-requires-3
-is_access_asleep-requires-3 c = (omega arith, c.requires.0 2 (omega arith), c.requires.1, c.requires.2)
-
-pub is_access_asleep-requires-4 : goal.is_access_asleep-requires-4
-is_access_asleep-requires-4 c = (omega arith, c.requires.0 3 (omega arith), c.requires.1, c.requires.2)
-
-pub is_access_asleep-requires-5 : goal.is_access_asleep-requires-5
-is_access_asleep-requires-5 c = (omega arith, c.requires.0 4 (omega arith), c.requires.1, c.requires.2)
-
-pub is_access_asleep-requires-6 : goal.is_access_asleep-requires-6
-is_access_asleep-requires-6 c = (omega arith, c.requires.0 5 (omega arith), c.requires.1, c.requires.2)
+pub loop-t-preserved : goal.loop-t-preserved
+loop-t-preserved c =
+    let a = c.args in
+    let t = c.loop-t.t in (
+      omega (arith, c.loop-t-test.true),
+      λ σ left shown may. one_more (λ (d : ℕ). (has a.late d && unwoken σ (byte_for access d)) ≡ false) t (c.loop-t.invariant.1 σ left shown may)
+          (sym (c.is_access_asleep.ensures σ left shown (may t c.loop-t-test.true)) ∙ c.if-is_access_asleep.false),
+    )
 
 pub returns : goal.returns
 returns c =
     let a = c.args in
-    λ σ left shown may. set_some (λ t. has a.late t && unwoken σ (byte_for access t)) c.six.result (c.six.ensures (λ t. has a.late t && unwoken σ (byte_for access t)) (c.is_access_asleep.ensures σ left shown (may 0 (omega arith))) (c.is_access_asleep-2.ensures σ left shown (may 1 (omega arith))) (c.is_access_asleep-3.ensures σ left shown (may 2 (omega arith))) (c.is_access_asleep-4.ensures σ left shown (may 3 (omega arith))) (c.is_access_asleep-5.ensures σ left shown (may 4 (omega arith))) (c.is_access_asleep-6.ensures σ left shown (may 5 (omega arith))))
+    λ σ left shown may. sym (any_none (λ (d : ℕ). has a.late d && unwoken σ (byte_for access d)) (λ d h. c.loop-t.invariant.1 σ left shown may d (omega (arith, h, c.loop-t-test.false))))

@@ -8,12 +8,6 @@ use Rattle.theory_tso.specs.Rules.{wakes}
 use Rattle.tso_rules.proofs.Asleep.{any_none}
 use Rattle.tso_rules.proofs.sleeping.is_woken.Goals as goal
 
-pub loop-u-init : goal.loop-u-init
-loop-u-init c = (omega arith, λ code σ left shown small d h. absurd (omega (arith, h)))
-
-pub wakes-requires : goal.wakes-requires
-wakes-requires c = (c.loop-u-test.true, c.requires.0, c.requires.1)
-
 pub returns-then-wakes : goal.returns-then-wakes
 returns-then-wakes c =
     let a = c.args in

@@ -41,8 +41,8 @@ accesses_below-accesses-requires c =
     let loaded = loaded_compiled program c.requires.0 in
     (omega (arith, threads_held program.code program.lengths program.threads (program_of program) loaded, c.requires.0.six), short_held program.code program.lengths program.threads (program_of program) loaded)
 
-pub begun-x-requires : goal.begun-x-requires
-begun-x-requires c =
+pub begun-requires : goal.begun-requires
+begun-requires c =
     let program = c.args.program in
     let w = c.requires in
     (program_of program, loaded_compiled program w.0, starting_compiled program, at_most_16 (program_of program) w.1)
@@ -89,5 +89,5 @@ returns c =
       wide = λ v σ r. subst (λ (n : ℕ). length (words_of (key_of p v σ)) ≤ 3 + (n + 1) / 2 + (9 + most.result) / 2) (sym held)
           (words_within p w v σ r most.result (most.ensures.1 program.code program.lengths program.threads p loaded live.ensures (without_queues σ) (stands-met p v σ r)));
       stands = c.first_spot-spot.ensures program.code program.lengths known.result program.threads program.groups p
-          (c.begun-x.ensures known.result program.groups p loaded (starting_compiled program) (at_most_16 p w.1) lines);
+          (c.begun.ensures known.result program.groups p loaded (starting_compiled program) (at_most_16 p w.1) lines);
     }

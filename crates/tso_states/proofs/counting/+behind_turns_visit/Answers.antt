@@ -11,20 +11,20 @@ use Rattle.tso_states.proofs.counting.+behind_turns_visit.Goals as goal
 pub behind-returns-then-is_over : goal.behind-returns-then-is_over
 behind-returns-then-is_over t c =
     let a = c.args in
-    record { words = refl; numbers = λ d ok. (ended_one d.program d.prefix (sym (c.is_over.ensures a.code.now a.lengths.now a.class.now d.threads d.groups a.x.now.place d.program d.prefix d.stands.reached refl) ∙ c.if-is_over.true), ok) }
+    record { words = refl; numbers = λ d ok. (ended_one d.program d.prefix (sym (c.is_over.ensures a.setup.now.program.code a.setup.now.program.lengths a.setup.now.program.class d.threads d.groups a.x.now.place d.program d.prefix d.stands.reached refl) ∙ c.if-is_over.true), ok) }
 
 pub behind-turns-requires : goal.behind-turns-requires
 behind-turns-requires t c =
     let a = c.args in (
       omega (arith, c.decreases),
-      (c.requires.0, c.requires.1, c.requires.2, c.requires.3, λ d. sym (c.is_over.ensures a.code.now a.lengths.now a.class.now d.threads d.groups a.x.now.place d.program d.prefix d.stands.reached refl) ∙ c.if-is_over.false),
+      (c.requires.0, c.requires.1, c.requires.2, c.requires.3, λ d. sym (c.is_over.ensures a.setup.now.program.code a.setup.now.program.lengths a.setup.now.program.class d.threads d.groups a.x.now.place d.program d.prefix d.stands.reached refl) ∙ c.if-is_over.false),
     )
 
-pub behind-returns-then-plan-x : goal.behind-returns-then-plan-x
-behind-returns-then-plan-x t c = record { words = c.turns.ensures.words; numbers = c.turns.ensures.numbers }
+pub behind-returns-then-shape-x : goal.behind-returns-then-shape-x
+behind-returns-then-shape-x t c = record { words = c.turns.ensures.words; numbers = c.turns.ensures.numbers }
 
 pub behind-key-k-requires : goal.behind-key-k-requires
-behind-key-k-requires t c = let e = c.requires.0 in (c.args.code.now, e.threads, e.groups, e.program, e.prefix, e.stands)
+behind-key-k-requires t c = let e = c.requires.0 in (c.args.setup.now.program.code, e.threads, e.groups, e.program, e.prefix, e.stands)
 
 pub behind-slice_bounds-k-end : goal.behind-slice_bounds-k-end
 behind-slice_bounds-k-end t c = let h = c.requires.3 in search rules
@@ -32,12 +32,12 @@ behind-slice_bounds-k-end t c = let h = c.requires.3 in search rules
 pub behind-slice_bounds-recall-end : goal.behind-slice_bounds-recall-end
 behind-slice_bounds-recall-end t c =
     let g = c.requires.3 in
-    let h : c.args.plan.width ≤ length c.key-k.result = search rules in
-    sym (length-take-le c.args.plan.width c.key-k.result h)
+    let h : c.args.shape.width ≤ length c.key-k.result = search rules in
+    sym (length-take-le c.args.shape.width c.key-k.result h)
 
 -- what the table says
-pub behind-returns-then-known : goal.behind-returns-then-known
-behind-returns-then-known t c =
+pub behind-returns-in-Some : goal.behind-returns-in-Some
+behind-returns-in-Some t c =
     let a = c.args in
     record {
       words = refl;
@@ -45,8 +45,8 @@ behind-returns-then-known t c =
           let at = d.stands in
           let p = d.program in
           let v = d.prefix in (
-            recalled p (admitted a.code.now a.lengths.now a.class.now d.threads d.groups a.x.now p v at) a.plan.width a.plan.slots d.wide v at.reached.allowed a.table.now _
-                (c.key-k.ensures a.code.now d.threads d.groups a.plan.width p v at c.requires.2 (d.wide v (end_of p v) (refl, at.reached.allowed)) c.requires.3) ok _ _ _ c.shape_of-shape.ensures.1 (c.recall-known.ensures c.if-known.true),
+            recalled p (admitted a.setup.now.program.code a.setup.now.program.lengths a.setup.now.program.class d.threads d.groups a.x.now p v at) a.shape.width a.shape.slots d.wide v at.reached.allowed a.table.now _
+                (c.key-k.ensures a.setup.now.program.code d.threads d.groups a.shape.width p v at c.requires.2 (d.wide v (end_of p v) (refl, at.reached.allowed)) c.requires.3) ok _ _ _ refl c.in-Some.ensures,
             ok,
           );
     }
@@ -55,7 +55,7 @@ pub behind-turns-n-requires : goal.behind-turns-n-requires
 behind-turns-n-requires t c =
     let a = c.args in (
       omega (arith, c.decreases),
-      (c.requires.0, c.requires.1, c.requires.2, c.requires.3, λ d. sym (c.is_over.ensures a.code.now a.lengths.now a.class.now d.threads d.groups a.x.now.place d.program d.prefix d.stands.reached refl) ∙ c.if-is_over.false),
+      (c.requires.0, c.requires.1, c.requires.2, c.requires.3, λ d. sym (c.is_over.ensures a.setup.now.program.code a.setup.now.program.lengths a.setup.now.program.class d.threads d.groups a.x.now.place d.program d.prefix d.stands.reached refl) ∙ c.if-is_over.false),
     )
 
 pub behind-slice_bounds-k-end-2 : goal.behind-slice_bounds-k-end-2
@@ -64,8 +64,8 @@ behind-slice_bounds-k-end-2 t c = let h = c.requires.3 in search rules
 pub behind-slice_bounds-keep-end : goal.behind-slice_bounds-keep-end
 behind-slice_bounds-keep-end t c =
     let g = c.requires.3 in
-    let h : c.args.plan.width ≤ length c.key-k.result = search rules in
-    sym (length-take-le c.args.plan.width c.key-k.result h)
+    let h : c.args.shape.width ≤ length c.key-k.result = search rules in
+    sym (length-take-le c.args.shape.width c.key-k.result h)
 
 -- what was counted is kept
 pub behind-returns : goal.behind-returns
@@ -79,8 +79,8 @@ behind-returns t c =
           let v = d.prefix in
           let r = n.ensures.numbers d ok in (
             r.0,
-            kept p (admitted a.code.now a.lengths.now a.class.now d.threads d.groups a.x.now p v at) a.plan.width a.plan.slots d.wide v at.reached.allowed _ _ _
-                (c.key-k.ensures a.code.now d.threads d.groups a.plan.width p v at c.requires.2 (d.wide v (end_of p v) (refl, at.reached.allowed)) c.requires.3) n.result.listed n.result.failing r.0 _ c.shape_of-shape.ensures.1
+            kept p (admitted a.setup.now.program.code a.setup.now.program.lengths a.setup.now.program.class d.threads d.groups a.x.now p v at) a.shape.width a.shape.slots d.wide v at.reached.allowed _ _ _
+                (c.key-k.ensures a.setup.now.program.code d.threads d.groups a.shape.width p v at c.requires.2 (d.wide v (end_of p v) (refl, at.reached.allowed)) c.requires.3) n.result.listed n.result.failing r.0 _ refl
                 c.keep.ensures.honest r.1,
           );
     }
@@ -88,13 +88,13 @@ behind-returns t c =
 pub turns-loop-b-init : goal.turns-loop-b-init
 turns-loop-b-init t c =
     let a = c.args in
-    (refl, omega arith, omega arith, turns_start a.code.now a.lengths.now a.class.now a.plan.width a.plan.slots a.x.now a.table.now c.requires.4)
+    (refl, omega arith, omega arith, turns_start a.setup.now.program.code a.setup.now.program.lengths a.setup.now.program.class a.shape.width a.shape.slots a.x.now a.table.now c.requires.4)
 
 pub turns-visit-n-requires : goal.turns-visit-n-requires
 turns-visit-n-requires t c =
     let a = c.args in (
       omega (arith, c.decreases),
-      (c.requires.0, c.requires.1, c.requires.2, c.requires.3, λ d. sym (c.is_tried.ensures a.code.now a.lengths.now d.threads d.groups a.x.now.place d.program d.prefix d.stands.reached refl refl) ∙ c.if-is_tried.true),
+      (c.requires.0, c.requires.1, c.requires.2, c.requires.3, λ d. sym (c.is_tried.ensures a.setup.now.program.code a.setup.now.program.lengths d.threads d.groups a.x.now.place d.program d.prefix d.stands.reached refl refl) ∙ c.if-is_tried.true),
     )
 
 -- with a step that is tried, and with one that is not
@@ -109,7 +109,7 @@ turns-loop-b-preserved t c =
             ap length w.table-is ∙ w.table-1.given ∙ loop.invariant.0,
             omega (arith, el),
             omega (arith, ef),
-            turn_tried a.code.now a.lengths.now a.class.now a.plan.width a.plan.slots a.x.now a.table.now loop.table _ c.if-is_tried.table loop.sum.listed loop.sum.failing _ _ c.if-is_tried.sum.listed c.if-is_tried.sum.failing loop.b
+            turn_tried a.setup.now.program.code a.setup.now.program.lengths a.setup.now.program.class a.shape.width a.shape.slots a.x.now a.table.now loop.table _ c.if-is_tried.table loop.sum.listed loop.sum.failing _ _ c.if-is_tried.sum.listed c.if-is_tried.sum.failing loop.b
                 in-loop loop.invariant.3 w.visit-n.ensures.numbers w.table-is el ef,
           )
       | turns-else-is_tried w ↦ let el = ap (λ (s : Tally). s.listed) w.sum-is in
@@ -117,15 +117,15 @@ turns-loop-b-preserved t c =
             ap length w.table-is ∙ loop.invariant.0,
             omega (arith, el, loop.invariant.1),
             omega (arith, ef, loop.invariant.2),
-            turn_skipped a.code.now a.lengths.now a.class.now a.plan.width a.plan.slots a.x.now a.table.now loop.table c.if-is_tried.table loop.sum.listed loop.sum.failing c.if-is_tried.sum.listed c.if-is_tried.sum.failing loop.b
-                in-loop loop.invariant.3 (λ d. sym (c.is_tried.ensures a.code.now a.lengths.now d.threads d.groups a.x.now.place d.program d.prefix d.stands.reached refl refl) ∙ w.if-is_tried.false) w.table-is el ef,
+            turn_skipped a.setup.now.program.code a.setup.now.program.lengths a.setup.now.program.class a.shape.width a.shape.slots a.x.now a.table.now loop.table c.if-is_tried.table loop.sum.listed loop.sum.failing c.if-is_tried.sum.listed c.if-is_tried.sum.failing loop.b
+                in-loop loop.invariant.3 (λ d. sym (c.is_tried.ensures a.setup.now.program.code a.setup.now.program.lengths d.threads d.groups a.x.now.place d.program d.prefix d.stands.reached refl refl) ∙ w.if-is_tried.false) w.table-is el ef,
           )
     ]
 
 pub turns-returns : goal.turns-returns
 turns-returns t c =
     let a = c.args in
-    let loop = c.loop-b in record { words = loop.invariant.0; numbers = turns_over a.code.now a.lengths.now a.class.now a.plan.width a.plan.slots a.x.now a.table.now loop.table loop.sum.listed loop.sum.failing loop.b c.loop-b-test.false loop.invariant.1 loop.invariant.2 loop.invariant.3 }
+    let loop = c.loop-b in record { words = loop.invariant.0; numbers = turns_over a.setup.now.program.code a.setup.now.program.lengths a.setup.now.program.class a.shape.width a.shape.slots a.x.now a.table.now loop.table loop.sum.listed loop.sum.failing loop.b c.loop-b-test.false loop.invariant.1 loop.invariant.2 loop.invariant.3 }
 
 -- ---- visit
 pub visit-stepped-y-requires : goal.visit-stepped-y-requires
@@ -138,7 +138,7 @@ visit-some_asleep-requires t c =
     let a = c.args in
     let e = c.requires.0 in
     let next = c.stepped-y.ensures e.threads e.groups e.program e.prefix e.stands (tried_enabled e.program e.prefix a.b (c.requires.4 e)) in
-    ((a.class.now, e.threads, e.groups, e.program, e.prefix ++ (a.b ∷ []), next.reached), c.requires.1)
+    ((a.setup.now.program.class, e.threads, e.groups, e.program, e.prefix ++ (a.b ∷ []), next.reached), c.requires.1)
 
 -- some byte is asleep for good
 pub visit-returns-then-some_asleep : goal.visit-returns-then-some_asleep
@@ -148,7 +148,7 @@ visit-returns-then-some_asleep t c =
       numbers = λ d ok.
           let is = c.requires.4 d in
           let next = c.stepped-y.ensures d.threads d.groups d.program d.prefix d.stands (tried_enabled d.program d.prefix a.b is) in
-          (asleep_none d.program d.prefix a.b is (sym (c.some_asleep.ensures a.class.now d.threads d.groups d.program (d.prefix ++ (a.b ∷ [])) next.reached) ∙ c.if-some_asleep.true), ok);
+          (asleep_none d.program d.prefix a.b is (sym (c.some_asleep.ensures a.setup.now.program.class d.threads d.groups d.program (d.prefix ++ (a.b ∷ [])) next.reached) ∙ c.if-some_asleep.true), ok);
     }
 
 pub visit-behind-n-requires : goal.visit-behind-n-requires
@@ -157,8 +157,8 @@ visit-behind-n-requires t c =
     let e = c.requires.0 in
     let may = tried_enabled e.program e.prefix a.b (c.requires.4 e) in
     let next = c.stepped-y.ensures e.threads e.groups e.program e.prefix e.stands may in
-    let less = step_less a.code.now a.lengths.now a.class.now e.threads e.groups a.x.now e.program e.prefix e.stands a.b may c.stepped-y.result next in
-    (omega (arith, c.decreases, less), (next_position a.code.now a.lengths.now a.class.now a.plan.width a.x.now c.stepped-y.result a.b e next, c.requires.1, c.requires.2, c.requires.3))
+    let less = step_less a.setup.now.program.code a.setup.now.program.lengths a.setup.now.program.class e.threads e.groups a.x.now e.program e.prefix e.stands a.b may c.stepped-y.result next in
+    (omega (arith, c.decreases, less), (next_position a.setup.now.program.code a.setup.now.program.lengths a.setup.now.program.class a.shape.width a.x.now c.stepped-y.result a.b e next, c.requires.1, c.requires.2, c.requires.3))
 
 pub visit-returns : goal.visit-returns
 visit-returns t c =
@@ -170,9 +170,9 @@ visit-returns t c =
           let is = c.requires.4 d in
           let may = tried_enabled d.program d.prefix a.b is in
           let next = y.ensures d.threads d.groups d.program d.prefix d.stands may in
-          let r = n.ensures.numbers (next_position a.code.now a.lengths.now a.class.now a.plan.width a.x.now y.result a.b d next) ok in (
-            awake_numbers d.program d.prefix a.b is (sym (c.some_asleep.ensures a.class.now d.threads d.groups d.program (d.prefix ++ (a.b ∷ [])) next.reached) ∙ c.if-some_asleep.false) c.is_broken.result
-                (c.is_broken.ensures a.code.now a.lengths.now a.class.now d.threads d.groups y.result.place d.program d.prefix next.reached refl may)
+          let r = n.ensures.numbers (next_position a.setup.now.program.code a.setup.now.program.lengths a.setup.now.program.class a.shape.width a.x.now y.result a.b d next) ok in (
+            awake_numbers d.program d.prefix a.b is (sym (c.some_asleep.ensures a.setup.now.program.class d.threads d.groups d.program (d.prefix ++ (a.b ∷ [])) next.reached) ∙ c.if-some_asleep.false) c.is_broken.result
+                (c.is_broken.ensures a.setup.now.program.code a.setup.now.program.lengths a.setup.now.program.class d.threads d.groups y.result.place d.program d.prefix next.reached refl may)
                 n.result.listed n.result.failing _ _ r.0 c.charged.ensures.0 c.charged.ensures.1,
             r.1,
           );

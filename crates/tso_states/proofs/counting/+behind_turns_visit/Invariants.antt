@@ -16,7 +16,4 @@ decreases-visit l = let n : ℕ = 32 - l.x.now.place.steps in n + n + n
 -- ---- turns
 abbrev pub invariant-turns-loop-b : goal.invariant-turns-loop-b
 invariant-turns-loop-b l =
-    (length l.table ≡ length l.initial.table) × (l.sum.listed < 2 ^ 64) × (l.sum.failing < 2 ^ 64) × Rest l.code l.lengths l.class l.plan.width l.plan.slots l.x l.initial.table l.table l.sum.listed l.sum.failing l.b
-
-abbrev pub decreases-turns-loop-b : goal.decreases-turns-loop-b
-decreases-turns-loop-b l = 22 - l.b
+    (length l.table ≡ length l.initial.table) × (l.sum.listed < 2 ^ 64) × (l.sum.failing < 2 ^ 64) × Rest l.setup.program.code l.setup.program.lengths l.setup.program.class l.shape.width l.shape.slots l.x l.initial.table l.table l.sum.listed l.sum.failing l.b

@@ -23,23 +23,18 @@ returns-then-not-is_meant c =
       added = λ code lengths class threads groups p v at e.
           let f : failing tso p v ≡ c.fails-f.result = sym (c.fails-f.ensures ∙ fails_by_lem at.holds.core) in
           adds_none 48 (failing tso p) a.a.room _ a.out.now a.a.rows
-          (behind_passed tso given_up a.a.failures p a.x.steps v c.fails-f.result e f (sym c.is_meant.ensures ∙ c.if-not-is_meant.true));
+          (behind_passed tso given_up a.a.failures p a.x.now.steps v c.fails-f.result e f (sym c.is_meant.ensures ∙ c.if-not-is_meant.true));
     }
-
-pub slice_bounds-schedule-end : goal.slice_bounds-schedule-end
-slice_bounds-schedule-end c =
-    let s : length c.args.x.schedule ≡ 32 = search rules in
-    omega (arith, s, c.requires.0)
 
 pub slice_bounds-put_row-end-2 : goal.slice_bounds-put_row-end-2
 slice_bounds-put_row-end-2 c =
-    let s : length c.args.x.schedule ≡ 32 = search rules in
+    let s : length c.args.x.now.schedule ≡ 32 = search rules in
     sym (length-take-le _ _ (omega (arith, s, c.requires.0)))
 
 pub put_row-requires : goal.put_row-requires
 put_row-requires c =
-    let x = c.args.x in
-    let s : length c.args.x.schedule ≡ 32 = search rules in
+    let x = c.args.x.now in
+    let s : length c.args.x.now.schedule ≡ 32 = search rules in
     (omega (arith, length-take x.steps x.schedule, s), omega arith, search rules)
 
 pub returns : goal.returns
@@ -52,6 +47,6 @@ returns c = record {
       let f : failing tso p v ≡ failed.result = sym (failed.ensures ∙ fails_by_lem at.holds.core) in
       let w = at.schedule in
       adds_one 48 (failing tso p) a.a.room _ v a.out.now c.put_row.new.out a.a.rows
-      (behind_end tso given_up a.a.failures p a.x.steps v failed.result e f (sym c.is_meant.ensures ∙ c.if-not-is_meant.false))
+      (behind_end tso given_up a.a.failures p a.x.now.steps v failed.result e f (sym c.is_meant.ensures ∙ c.if-not-is_meant.false))
       c.if-a-rows.false (c.put_row.ensures ∙ rw (w, f));
 }

@@ -1,5 +1,5 @@
 -- `is_over` asks both sets.
-use Rattle.std.proofs.Common.{ℕ, ◌≡◌, refl, sym, ap, ◌∙◌, Bool, true, false, eqb, eqb-true}
+use Rattle.std.proofs.Common.{ℕ, ◌≡◌, refl, sym, ap, ◌∙◌, Bool, true, false, eqb, eqb-true, ne_eqb}
 use borrow.Author.Tests.{eqb-false}
 use Rattle.spec_schedules.specs.System.{ended}
 use Rattle.spec_tso.specs.State.{TSO, State, access, move, enabled}
@@ -22,6 +22,6 @@ returns-then-s-eq0 c code lengths class threads groups x p v at es =
     let s = c.args.s in
     by-moving (end_of p v) s.moving (ap (λ (k : Sets). k.moving) (sym es) ∙ at.sets.moving) (sym at.sets.live ∙ ap (λ (k : Sets). k.live) es ∙ c.if-s-eq0.true)
 
-pub returns : goal.returns
-returns c code lengths class threads groups x p v at es =
-    sym (going_set (end_of p v) access (λ z. c.if-s-eq0.false (ap (λ (k : Sets). k.live) (sym es) ∙ at.sets.live ∙ z)))
+pub returns-else-s-eq0 : goal.returns-else-s-eq0
+returns-else-s-eq0 c code lengths class threads groups x p v at es =
+    ne_eqb _ _ c.if-s-eq0.false ∙ sym (going_set (end_of p v) access (λ z. c.if-s-eq0.false (ap (λ (k : Sets). k.live) (sym es) ∙ at.sets.live ∙ z)))

@@ -1,8 +1,0 @@
--- `answered` makes the word of kind 1.
-use Rattle.std.proofs.Common.{refl}
-use Rattle.spec_calls.specs.Word.{word_of}
-use Rattle.c_word.proofs.word.answered.Goals as goal
-
-pub returns : goal.returns
-unfolding word_of
-returns c = refl
